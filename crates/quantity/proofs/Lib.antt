@@ -1,0 +1,8 @@
+-- Laws that this crate's proofs cite, and those of the crates above it.
+pub mod Columns
+pub mod Comparing
+pub mod CrossProducts
+pub mod Distance
+pub mod Floors
+pub mod Rows
+pub mod Span

@@ -1,0 +1,26 @@
+-- The refusal table as data, document 01, "Refusals, by the place of the check": "Places and numbers are tried in the
+-- order shown; the first that applies is the answer, and none is given otherwise."
+use Prim.Native.Nat.{ℕ}
+use mathlib.Core.List.{List, [], _∷_}
+use mathlib.Core.Bool.{Bool, true, false}
+use Rattle.quantity.specs.declared.refusal.Outcome.{Outcome}
+use Rattle.quantity.specs.declared.refusal.Outcome.the-variants.{Accepted, Refused}
+
+-- a row of the table: a number, and the condition under which it is given
+pub record Row : Type 0 where
+  pub number : ℕ
+  pub condition : Bool
+
+abbrev pub row : ℕ → Bool → Row
+row n b = record { number = n; condition = b }
+
+-- the number of the first row whose condition holds, and none otherwise
+unfoldable pub firstOf : List Row → Outcome
+firstOf [] = Accepted
+firstOf (r ∷ rs) = elim (r .condition) [ true ↦ Refused (r .number) | false ↦ firstOf rs ]
+
+-- an outcome after one row more, as code takes the rows: `accumulated` of proofs/Rows.antt ties it to `firstOf`
+unfoldable pub orRow : Outcome → Bool → ℕ → Outcome
+orRow (Refused earlier) refuses n = Refused earlier
+orRow Accepted true n = Refused n
+orRow Accepted false n = Accepted

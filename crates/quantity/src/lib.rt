@@ -1,0 +1,14 @@
+// What every crate shares: the units of temperature and of difference, the refusal table's rows, the numbers of
+// a temperature's two ends, and the comparison of two products of 64-bit numbers.
+mod product;
+mod range;
+mod refusal;
+mod units;
+
+pub use product::product_less;
+pub use range::End;
+pub use range::Position;
+pub use range::end_number;
+pub use refusal::Outcome;
+pub use units::Difference;
+pub use units::Temperature;
