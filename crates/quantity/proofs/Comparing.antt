@@ -3,13 +3,15 @@
 use mathlib.Core.Path.{_≡_, refl, sym, _∙_}
 use mathlib.Core.Bool.{Bool, true, false}
 use Prim.Native.Nat.{ℕ, _≤_, _<_}
-use native.Mathlib.Omega.{arith}
-use lib.Dec.{ltb}
-use borrow.Author.Tests.{lt-ltb, le-ltb, ltb-true, ltb-false}
+use lib.Dec.{ltb, leb}
+use borrow.Author.Tests.{lt-ltb, le-ltb, le-leb, lt-leb, ltb-true, ltb-false, leb-true, leb-false}
+
+same : (s t : Bool) → (s ≡ true → t ≡ true) → (s ≡ false → t ≡ false) → s ≡ t
+same true t f g = sym (f refl)
+same false t f g = sym (g refl)
 
 pub same-order : (x y p q : ℕ) → (x < y → p < q) → (y ≤ x → q ≤ p) → ltb x y ≡ ltb p q
-same-order x y p q f g = go (ltb x y) refl
-  where
-    go : (t : Bool) → ltb x y ≡ t → ltb x y ≡ ltb p q
-    go true e = e ∙ sym (lt-ltb p q (f (ltb-true x y e)))
-    go false e = e ∙ sym (le-ltb p q (g (ltb-false x y e)))
+same-order x y p q f g = same (ltb x y) (ltb p q) (λ e. lt-ltb p q (f (ltb-true x y e))) (λ e. le-ltb p q (g (ltb-false x y e)))
+
+pub same-at-most : (x y p q : ℕ) → (x ≤ y → p ≤ q) → (y < x → q < p) → leb x y ≡ leb p q
+same-at-most x y p q f g = same (leb x y) (leb p q) (λ e. le-leb p q (f (leb-true x y e))) (λ e. lt-leb p q (g (leb-false x y e)))

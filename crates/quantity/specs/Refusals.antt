@@ -2,7 +2,7 @@
 -- order shown; the first that applies is the answer, and none is given otherwise."
 use Prim.Native.Nat.{ℕ}
 use mathlib.Core.List.{List, [], _∷_}
-use mathlib.Core.Bool.{Bool, true, false}
+use mathlib.Core.Bool.{Bool, true, false, cond}
 use Rattle.quantity.specs.declared.refusal.Outcome.{Outcome}
 use Rattle.quantity.specs.declared.refusal.Outcome.the-variants.{Accepted, Refused}
 
@@ -17,7 +17,7 @@ row n b = record { number = n; condition = b }
 -- the number of the first row whose condition holds, and none otherwise
 unfoldable pub firstOf : List Row → Outcome
 firstOf [] = Accepted
-firstOf (r ∷ rs) = elim (r .condition) [ true ↦ Refused (r .number) | false ↦ firstOf rs ]
+firstOf (r ∷ rs) = cond (r .condition) (Refused (r .number)) (firstOf rs)
 
 -- an outcome after one row more, as code takes the rows: `accumulated` of proofs/Rows.antt ties it to `firstOf`
 unfoldable pub orRow : Outcome → Bool → ℕ → Outcome

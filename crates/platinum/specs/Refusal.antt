@@ -1,0 +1,43 @@
+-- The refusals of the temperature operation, document 01's row "Temperature alone | 12; 32", and the rows "32 supply, 33 return has
+-- no temperature" of the sample.
+use Prim.Native.Nat.{ℕ}
+use mathlib.Core.List.{List, [], _∷_}
+use mathlib.Core.Bool.{Bool, true, false}
+use Rattle.quantity.specs.Refusals.{Row, row}
+use Rattle.quantity.specs.Range.{endNumber}
+use Rattle.quantity.specs.declared.refusal.Outcome.{Outcome}
+use Rattle.quantity.specs.declared.refusal.Outcome.the-variants.{Accepted, Refused}
+use Rattle.quantity.specs.declared.range.Position.{Position}
+use Rattle.quantity.specs.declared.range.Position.the-variants.{Alone}
+use Rattle.quantity.specs.declared.range.End.{End}
+use Rattle.quantity.specs.declared.range.End.the-variants.{Low, High}
+use Rattle.platinum.specs.Sensor.{sensorOf, isUnknown}
+use Rattle.platinum.specs.Temperature.{temperatureOf}
+use Rattle.platinum.specs.declared.reading.Measured.{Measured}
+use Rattle.platinum.specs.declared.reading.Measured.the-variants.{At, Outside, NoSensor}
+
+-- an answer's number, by the place of the check
+unfoldable pub refusalOf : Position → Measured → Outcome
+refusalOf p (At t) = Accepted
+refusalOf p (Outside e) = Refused (endNumber p e)
+refusalOf p NoSensor = Refused 12
+
+-- the answer misses this end of the range
+abbrev pub misses : End → Measured → Bool
+misses e (At t) = false
+misses Low (Outside Low) = true
+misses Low (Outside High) = false
+misses High (Outside Low) = false
+misses High (Outside High) = true
+misses e NoSensor = false
+
+-- "has no temperature", for each end of the range
+abbrev pub endRows : Position → Measured → List Row
+endRows p m =
+    row (endNumber p Low) (misses Low m)
+    ∷ row (endNumber p High) (misses High m)
+    ∷ []
+
+-- "Temperature alone": 12; 32. proofs/Answer.antt shows that `refusalOf Alone` of the answer is the first of these
+abbrev pub aloneRows : ℕ → ℕ → List Row
+aloneRows field r = row 12 (isUnknown (sensorOf field)) ∷ endRows Alone (temperatureOf field r)
