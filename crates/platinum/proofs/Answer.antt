@@ -15,7 +15,7 @@ use Rattle.quantity.specs.declared.range.Position.the-variants.{Alone}
 use Rattle.quantity.specs.declared.range.End.{End}
 use Rattle.quantity.specs.declared.range.End.the-variants.{Low, High}
 use Rattle.platinum.specs.Sensor.{resistanceOf, sensorOf, isUnknown}
-use Rattle.platinum.specs.Temperature.{W, last, scaled, largest, ofResistance, ofKind, temperatureOf, IsTemperature}
+use Rattle.platinum.specs.Temperature.{W, last, scaled, largest, ofResistance, ofKind, temperatureOf, HasTemperature, IsTemperature}
 use Rattle.platinum.specs.Refusal.{refusalOf, endRows, aloneRows}
 use Rattle.platinum.specs.declared.sensor.Sensor.{Sensor}
 use Rattle.platinum.specs.declared.sensor.SensorField.{SensorField}
@@ -24,11 +24,6 @@ use Rattle.platinum.specs.declared.reading.Measured.{Measured}
 use Rattle.platinum.specs.declared.reading.Measured.the-variants.{At, Outside, NoSensor}
 use Rattle.platinum.proofs.Growth.{grows-or-stays}
 use Rattle.platinum.proofs.Largest.{bounded, holds, at-least}
-
--- the range in which a temperature exists
-pub record InRange (n r : ℕ) : Type 0 where
-  pub from : n * W 0 ≤ scaled r
-  pub to : scaled r ≤ n * W last
 
 module _ (n r : ℕ) where
   test : ℕ → Bool
@@ -49,7 +44,7 @@ unique n r s t h g = le-antisymm (g .largest-one s (h .in-range) (h .reached)) (
 
 -- what an answer `At t` says, by the two tests of `ofResistance`
 by-tests : (n r : ℕ) (t : Temperature) (low high : Bool) → ltb (scaled r) (n * W 0) ≡ low → ltb (n * W last) (scaled r) ≡ high →
-    cond low (Outside Low) (cond high (Outside High) (At (record { 0 = largest (test n r) last }))) ≡ At t → InRange n r × IsTemperature n r (t .0)
+    cond low (Outside Low) (cond high (Outside High) (At (record { 0 = largest (test n r) last }))) ≡ At t → HasTemperature n r × IsTemperature n r (t .0)
 by-tests n r t true high p q e = let z : _≡_ {A = ℕ} 0 1 = cc in absurd (omega arith)
 by-tests n r t false true p q e = let z : _≡_ {A = ℕ} 0 1 = cc in absurd (omega arith)
 by-tests n r t false false p q e =
@@ -58,20 +53,20 @@ by-tests n r t false false p q e =
     (record { from = from; to = ltb-false (n * W last) (scaled r) q }, subst (λ (x : Temperature). IsTemperature n r (x .0)) same (is-temperature n r from))
 
 -- an answered temperature is that of r, and r lies in the range
-pub answered : (n r : ℕ) (t : Temperature) → ofResistance n r ≡ At t → InRange n r × IsTemperature n r (t .0)
+pub answered : (n r : ℕ) (t : Temperature) → ofResistance n r ≡ At t → HasTemperature n r × IsTemperature n r (t .0)
 unfolding ofResistance test
 answered n r t e = by-tests n r t _ _ refl refl e
 
-in-range : (n r : ℕ) → InRange n r → ofResistance n r ≡ At (record { 0 = largest (test n r) last })
+largest-is : (n r : ℕ) → HasTemperature n r → ofResistance n r ≡ At (record { 0 = largest (test n r) last })
 unfolding ofResistance test
-in-range n r h = simp (le-ltb (scaled r) (n * W 0) (h .from), le-ltb (n * W last) (scaled r) (h .to))
+largest-is n r h = simp (le-ltb (scaled r) (n * W 0) (h .from), le-ltb (n * W last) (scaled r) (h .to))
 
 -- in the range there is an answer, and it is whichever t is the temperature of r
-pub exists : (n r : ℕ) → InRange n r → (t : Temperature) × (ofResistance n r ≡ At t)
-exists n r h = (_, in-range n r h)
+pub exists : (n r : ℕ) → HasTemperature n r → (t : Temperature) × (ofResistance n r ≡ At t)
+exists n r h = (_, largest-is n r h)
 
-pub exactly : (n r : ℕ) (t : Temperature) → InRange n r → IsTemperature n r (t .0) → ofResistance n r ≡ At t
-exactly n r t h g = in-range n r h ∙ ap (λ (x : ℕ). At (record { 0 = x })) (unique n r _ _ (is-temperature n r (h .from)) g)
+pub exactly : (n r : ℕ) (t : Temperature) → HasTemperature n r → IsTemperature n r (t .0) → ofResistance n r ≡ At t
+exactly n r t h g = largest-is n r h ∙ ap (λ (x : ℕ). At (record { 0 = x })) (unique n r _ _ (is-temperature n r (h .from)) g)
 
 -- a larger reading of the same sensor never has a smaller temperature
 pub no-smaller : (n r r′ s t : ℕ) → r ≤ r′ → IsTemperature n r s → IsTemperature n r′ t → s ≤ t

@@ -45,7 +45,12 @@ ofKind Unknown r = NoSensor
 unfoldable pub temperatureOf : ℕ → ℕ → Measured
 temperatureOf field r = ofKind (sensorOf field) r
 
--- The same sentence as a statement about t, which proofs/Answer.antt shows of each temperature that is answered, and of no other t.
+-- The two sentences as statements about t, which proofs/Answer.antt shows of `ofResistance`: it answers a temperature exactly where
+-- there is one, and then the one that is the largest.
+pub record HasTemperature (n r : ℕ) : Type 0 where
+  pub from : n * W 0 ≤ scaled r
+  pub to : scaled r ≤ n * W last
+
 pub record IsTemperature (n r t : ℕ) : Type 0 where
   pub in-range : t ≤ last
   pub reached : n * W t ≤ scaled r

@@ -1,0 +1,37 @@
+// Runs outside vectors: repeats each line of its input with the answer behind it. The file `stdout` beside src/ has
+// the same lines with the answers as the sources name them in the lines that begin with '#'.
+mod answers;
+mod temperatures;
+mod text;
+
+use libc::STDIN_FILENO;
+use libc::STDOUT_FILENO;
+
+fn main() {
+    let mut space = [0u8; 262144];
+    let n = io::read_full(STDIN_FILENO, &mut space);
+    run(&space[..n]);
+}
+
+fn run(input: &[u8]) {
+    let mut at = 0;
+    while at < input.len() {
+        let end = text::line_end(input, at);
+        answer(&input[at..end]);
+        at = end + 1;
+    }
+}
+
+// The line's first byte names the operation that its numbers go to.
+fn answer(line: &[u8]) {
+    io::write_all(STDOUT_FILENO, line);
+    if 0 < line.len() {
+        let operation = line[0];
+        match operation {
+            b'T' => temperatures::of_reading(line),
+            b'P' => temperatures::of_published(line),
+            _ => {}
+        }
+    }
+    io::write_all(STDOUT_FILENO, b"\n");
+}
