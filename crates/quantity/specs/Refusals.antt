@@ -1,8 +1,10 @@
 -- The refusal table as data, document 01, "Refusals, by the place of the check": "Places and numbers are tried in the
 -- order shown; the first that applies is the answer, and none is given otherwise."
+use mathlib.Core.Path.{_≡_}
 use Prim.Native.Nat.{ℕ}
 use mathlib.Core.List.{List, [], _∷_}
-use mathlib.Core.Bool.{Bool, true, false, cond}
+use mathlib.Core.Bool.{Bool, true, false, cond, _||_}
+use lib.Dec.{ltb}
 use Rattle.quantity.specs.declared.refusal.Outcome.{Outcome}
 use Rattle.quantity.specs.declared.refusal.Outcome.the-variants.{Accepted, Refused}
 
@@ -14,10 +16,19 @@ pub record Row : Type 0 where
 abbrev pub row : ℕ → Bool → Row
 row n b = record { number = n; condition = b }
 
+-- a condition of many rows: x lies outside low..high
+unfoldable pub outside : ℕ → ℕ → ℕ → Bool
+outside x low high = ltb x low || ltb high x
+
 -- the number of the first row whose condition holds, and none otherwise
 unfoldable pub firstOf : List Row → Outcome
 firstOf [] = Accepted
 firstOf (r ∷ rs) = cond (r .condition) (Refused (r .number)) (firstOf rs)
+
+-- no row applies: each condition is false
+abbrev pub NoneApplies : List Row → Type 0
+NoneApplies [] = Unit {0}
+NoneApplies (r ∷ rs) = (r .condition ≡ false) × NoneApplies rs
 
 -- an outcome after one row more, as code takes the rows: `accumulated` of proofs/Rows.antt ties it to `firstOf`
 unfoldable pub orRow : Outcome → Bool → ℕ → Outcome

@@ -10,5 +10,6 @@ pub use range::End;
 pub use range::Position;
 pub use range::end_number;
 pub use refusal::Outcome;
+pub use refusal::is_outside;
 pub use units::Difference;
 pub use units::Temperature;
