@@ -1,5 +1,6 @@
 -- Laws that this crate's proofs cite, and those of the crates above it.
 pub mod Answer
+pub mod Ends
 pub mod Growth
 pub mod Largest
 pub mod Resistances

@@ -11,7 +11,8 @@ use quantity::Temperature;
 ghost use mathlib.Core.Path.{_≡_};
 ghost use Prim.Native.Nat.{_<_, _≤_};
 ghost use Rattle.platinum.specs.Temperature.{ofResistance, temperatureOf};
-ghost use Rattle.platinum.specs.Refusal.{refusalOf};
+ghost use Rattle.platinum.specs.Refusal.{endRows, refusalOf};
+ghost use Rattle.quantity.specs.Refusals.{firstOf};
 
 // What a reading gives: its temperature; or the end of the range that it misses; or no sensor kind to read it by.
 pub enum Measured {
@@ -53,8 +54,19 @@ impl Measured {
     {
         match self {
             Measured::At(_) => Outcome::Accepted,
-            Measured::Outside(end) => Outcome::Refused(quantity::end_number(position, end)),
+            Measured::Outside(_) => self.end_refusal(position),
             Measured::NoSensor => Outcome::Refused(12),
+        }
+    }
+
+    // The rows of the two ends of the range alone, for a place where the sensor has been tested.
+    pub fn end_refusal(self, position: Position) -> Outcome
+        ensures { λ r. ⌜ r ≡ firstOf (endRows position self) ⌝ }
+    {
+        match self {
+            Measured::At(_) => Outcome::Accepted,
+            Measured::Outside(end) => Outcome::Refused(quantity::end_number(position, end)),
+            Measured::NoSensor => Outcome::Accepted,
         }
     }
 }

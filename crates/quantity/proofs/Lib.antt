@@ -1,6 +1,7 @@
 -- Laws that this crate's proofs cite, and those of the crates above it.
 pub mod Columns
 pub mod Comparing
+pub mod Conditions
 pub mod CrossProducts
 pub mod Distance
 pub mod Floors

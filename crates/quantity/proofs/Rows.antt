@@ -1,6 +1,6 @@
 -- Laws of `firstOf`: how code takes the rows, what it means that none applies, and rows in two parts.
 -- Assumes nothing.
-use mathlib.Core.Path.{_≡_, refl}
+use mathlib.Core.Path.{_≡_, refl, subst}
 use mathlib.Core.List.{List, [], _∷_, _++_}
 use mathlib.Core.Bool.{Bool, true, false, cond}
 use Prim.Native.Nat.{ℕ}
@@ -62,3 +62,29 @@ parts (r ∷ rs) ss = go (r .condition) (parts rs ss)
         cond b (Refused (r .number)) (firstOf (rs ++ ss)) ≡ orElse (cond b (Refused (r .number)) (firstOf rs)) (firstOf ss)
     go true h = refl
     go false h = h
+
+pub none-of-parts : (rs ss : List Row) → NoneApplies (rs ++ ss) → NoneApplies rs × NoneApplies ss
+none-of-parts [] ss h = (tt, h)
+none-of-parts (r ∷ rs) ss h =
+    let p = none-of-parts rs ss (h .1) in
+    ((h .0, p .0), p .1)
+
+pub none-together : (rs ss : List Row) → NoneApplies rs → NoneApplies ss → NoneApplies (rs ++ ss)
+none-together [] ss h g = g
+none-together (r ∷ rs) ss h g = (h .0, none-together rs ss (h .1) g)
+
+-- a refusal's number is that of some row: what holds of each row's number holds of it
+abbrev pub EachNumber : (ℕ → Type 0) → List Row → Type 0
+EachNumber P [] = Unit {0}
+EachNumber P (r ∷ rs) = P (r .number) × EachNumber P rs
+
+one-of : (P : ℕ → Type 0) (b : Bool) (k n : ℕ) (o : Outcome) → P k → (o ≡ Refused n → P n) → cond b (Refused k) o ≡ Refused n → P n
+one-of P true k n o p f e =
+    let same : k ≡ n = cc in
+    subst P same p
+one-of P false k n o p f e = f e
+
+pub of-some-row : (P : ℕ → Type 0) (rs : List Row) (n : ℕ) → EachNumber P rs → firstOf rs ≡ Refused n → P n
+unfolding firstOf
+of-some-row P [] n h e = let z : _≡_ {A = ℕ} 0 1 = cc in absurd (omega arith)
+of-some-row P (r ∷ rs) n h e = one-of P (r .condition) (r .number) n (firstOf rs) (h .0) (of-some-row P rs n (h .1)) e
