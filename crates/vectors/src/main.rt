@@ -3,6 +3,7 @@
 mod answers;
 mod temperatures;
 mod text;
+mod waters;
 
 use libc::STDIN_FILENO;
 use libc::STDOUT_FILENO;
@@ -30,6 +31,9 @@ fn answer(line: &[u8]) {
         match operation {
             b'T' => temperatures::of_reading(line),
             b'P' => temperatures::of_published(line),
+            b'K' => waters::of_pair(line),
+            b'W' => waters::of_degree(line),
+            b'Q' => waters::of_published(line),
             _ => {}
         }
     }

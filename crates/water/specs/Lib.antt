@@ -1,0 +1,8 @@
+-- What the contracts of this crate, and of those above it, cite.
+pub mod Fraction
+pub mod If97
+pub mod Table
+pub mod Interpolation
+pub mod Pair
+pub mod Coefficient
+pub mod Heat
