@@ -5,7 +5,7 @@ use mathlib.Core.Bool.{Bool, true, false, _&&_, _||_}
 use Prim.Native.Nat.{ℕ, _≤_}
 use native.Mathlib.Omega.{arith}
 use lib.Dec.{ltb}
-use borrow.Author.Tests.{le-ltb, ltb-false}
+use borrow.Author.Tests.{ltb-false}
 use Rattle.quantity.specs.Refusals.{outside}
 
 pub neither : (a b : Bool) → (a || b) ≡ false → (a ≡ false) × (b ≡ false)
@@ -21,7 +21,3 @@ unfolding outside
 inside x low high e =
     let p = neither (ltb x low) (ltb high x) e in
     (ltb-false x low (p .0), ltb-false high x (p .1))
-
-pub not-outside : (x low high : ℕ) → low ≤ x → x ≤ high → outside x low high ≡ false
-unfolding outside
-not-outside x low high l h = simp (le-ltb x low l, le-ltb high x h)

@@ -1,6 +1,7 @@
 // Runs outside vectors: repeats each line of its input with the answer behind it. The file `stdout` beside src/ has
 // the same lines with the answers as the sources name them in the lines that begin with '#'.
 mod answers;
+mod meters;
 mod temperatures;
 mod text;
 mod waters;
@@ -34,6 +35,8 @@ fn answer(line: &[u8]) {
             b'K' => waters::of_pair(line),
             b'W' => waters::of_degree(line),
             b'Q' => waters::of_published(line),
+            b'F' => meters::of_card(line),
+            b'M' => meters::of_state(line),
             _ => {}
         }
     }

@@ -1,0 +1,126 @@
+-- What is known where no row of card, state or sample refuses, as plain facts about numbers.
+-- Assumes nothing.
+use mathlib.Core.Path.{_≡_, refl, sym, _∙_, ap}
+use mathlib.Core.List.{List, [], _∷_, _++_}
+use mathlib.Core.Bool.{Bool, true, false, not, _&&_, _||_}
+use Prim.Native.Nat.{ℕ, _+_, _*_, _^_, _≤_, _<_}
+use native.Mathlib.Nat.{mul-le-mul}
+use native.Mathlib.Omega.{arith}
+use lib.Dec.{ltb, leb, eqb}
+use borrow.Author.Tests.{ltb-false, leb-true, leb-false, eqb-false, eqb-true, not-false}
+use Rattle.quantity.specs.Refusals.{outside, NoneApplies}
+use Rattle.quantity.proofs.Conditions.{neither, both, inside}
+use Rattle.quantity.specs.Units.{isColder, distanceOf}
+use Rattle.quantity.specs.declared.units.Temperature.{Temperature}
+use Rattle.platinum.specs.declared.reading.Measured.{Measured}
+use Rattle.platinum.specs.declared.reading.Measured.the-variants.{At, Outside, NoSensor}
+use Rattle.platinum.specs.Temperature.{temperatureOf}
+use Rattle.platinum.proofs.Answer.{at-most}
+use Rattle.meter.specs.Card.{cardRows}
+use Rattle.meter.specs.State.{stateRows, largestRegister, largestVolume, largestCount}
+use Rattle.meter.specs.Sample.{volumeOf, supplyOf, returnOf, degreesOf, ts, tr, heatOf}
+use Rattle.meter.specs.Step.{countRows, rangeRows, limitRows}
+use Rattle.water.specs.Heat.{floored}
+use Rattle.meter.specs.declared.card.Card.{Card}
+use Rattle.meter.specs.declared.state.Meter.{Meter}
+use Rattle.meter.specs.declared.sample.Sample.{Sample}
+
+pub record AcceptedCard (c : Card) : Type 0 where
+  pub place : outside (c .place) 1 2 ≡ false
+  pub ml : (1 ≤ c .«ml_per_pulse») × (c .«ml_per_pulse» ≤ 100000)
+  pub theta : (c .«theta_min» < c .«theta_max») × (c .«theta_max» ≤ 180)
+  pub delta-min : (1 ≤ c .«delta_min») × (c .«delta_min» ≤ 3)
+  pub delta-max : (10 * c .«delta_min» ≤ c .«delta_max») × (c .«delta_max» ≤ 180)
+  pub flow : c .qs ≤ 10 ^ 9
+  pub power : (1 ≤ c .ps) × (c .ps ≤ 10 ^ 9)
+
+pub accepted-card : (c : Card) → NoneApplies (cardRows c) → AcceptedCard c
+unfolding cardRows
+accepted-card c h =
+    let h11 = h .1 in
+    let h13 = h11 .1 .1 in
+    let h14 = h13 .1 in
+    let h15 = h14 .1 in
+    let h16 = h15 .1 in
+    let h17 = h16 .1 in
+    let theta = neither _ _ (h14 .0) in
+    let delta = neither _ _ (h16 .0) in
+    let flow = both (leb 1 (c .qi) && leb (c .qi) (c .qp) && leb (c .qp) (c .qs)) (leb (c .qs) (10 ^ 9)) (not-false _ (h17 .0)) in
+    record {
+      place = h11 .0;
+      ml = inside _ _ _ (h13 .0);
+      theta = (leb-false _ _ (theta .0), ltb-false _ _ (theta .1));
+      delta-min = inside _ _ _ (h15 .0);
+      delta-max = (ltb-false _ _ (delta .0), ltb-false _ _ (delta .1));
+      flow = leb-true _ _ (flow .1);
+      power = inside _ _ _ (h17 .1 .0);
+    }
+
+pub record AcceptedState (m : Meter) : Type 0 where
+  pub register : m .register ≤ largestRegister
+  pub volume : m .volume ≤ largestVolume
+  pub counts : m .accepted + m .refused < largestCount
+
+strictly : (a b : ℕ) → a ≤ b → (a ≡ b → ⊥) → a < b
+strictly a b h n = omega arith
+
+pub accepted-state : (m : Meter) → NoneApplies (stateRows m) → AcceptedState m
+unfolding stateRows
+accepted-state m h =
+    let limits = neither (ltb largestRegister (m .register) || ltb largestVolume (m .volume)) (ltb largestCount (m .accepted + m .refused)) (h .0) in
+    let two = neither (ltb largestRegister (m .register)) (ltb largestVolume (m .volume)) (limits .0) in
+    record {
+      register = ltb-false _ _ (two .0);
+      volume = ltb-false _ _ (two .1);
+      counts = strictly _ _ (ltb-false _ _ (limits .1)) (eqb-false _ _ (h .1 .0));
+    }
+
+pub record AcceptedCounts (c : Card) (s : Sample) : Type 0 where
+  pub seconds : (1 ≤ s .seconds) × (s .seconds ≤ 3600)
+  pub pulses : s .pulses ≤ 1000000
+  pub volume : volumeOf c s ≤ 1000000
+
+pub accepted-counts : (c : Card) (s : Sample) → NoneApplies (countRows c s) → AcceptedCounts c s
+unfolding countRows
+accepted-counts c s h =
+    let p = neither _ _ (h .1 .0) in
+    record { seconds = inside _ _ _ (h .0); pulses = ltb-false _ _ (p .0); volume = ltb-false _ _ (p .1) }
+
+-- the supply temperature lies above that of the return
+pub record AcceptedPair (c : Card) (s : Sample) : Type 0 where
+  pub warmer : tr c s .0 ≤ ts c s .0
+  pub apart : tr c s .0 + c .«delta_min» * 100 ≤ ts c s .0
+
+above : (a b : Temperature) (n : ℕ) → b .0 ≤ a .0 → n ≤ distanceOf a b .0 → b .0 + n ≤ a .0
+unfolding distanceOf
+above a b n h l = omega arith
+
+pub accepted-pair : (c : Card) (s : Sample) → NoneApplies (rangeRows c s) → AcceptedPair c s
+unfolding rangeRows
+accepted-pair c s h =
+    let h36 = h .1 .1 in
+    let warmer = ltb-false (ts c s .0) (tr c s .0) (h36 .0) in
+    record { warmer = warmer; apart = above _ _ _ warmer (ltb-false _ _ (h36 .1 .0)) }
+
+pub record AcceptedLimits (m : Meter) (s : Sample) : Type 0 where
+  pub register : m .register + floored (heatOf (m .card) s) ≤ largestRegister
+  pub volume : m .volume + volumeOf (m .card) s ≤ largestVolume
+
+pub accepted-limits : (m : Meter) (s : Sample) → NoneApplies (limitRows m s) → AcceptedLimits m s
+unfolding limitRows
+accepted-limits m s h =
+    let room = neither _ _ (h .1 .0) in
+    record { register = ltb-false _ _ (room .0); volume = ltb-false _ _ (room .1) }
+
+-- a temperature of the definitions, the default among them, is at most 180.00 °C
+by-answer : (x : Measured) → ((t : Temperature) → x ≡ At t → t .0 ≤ 18000) → degreesOf x .0 ≤ 18000
+by-answer (At t) h = h t refl
+by-answer (Outside e) h = omega arith
+by-answer NoSensor h = omega arith
+
+pub degrees-at-most : (field r : ℕ) → degreesOf (temperatureOf field r) .0 ≤ 18000
+degrees-at-most field r = by-answer (temperatureOf field r) (at-most field r)
+
+-- products of an accepted card's and an accepted sample's numbers fit 64 bits
+pub product-fits : (a b : ℕ) → a ≤ 10 ^ 12 → b ≤ 3600 → a * b < 2 ^ 64
+product-fits a b h g = omega (arith, mul-le-mul h g)

@@ -1,0 +1,116 @@
+-- What stays true along the calls from a fresh meter.
+-- Assumes nothing.
+use mathlib.Core.Path.{_≡_, refl, sym, _∙_, ap, subst}
+use mathlib.Core.List.{List, [], _∷_, _++_}
+use mathlib.Core.Bool.{Bool, true, false, cond, _||_}
+use mathlib.Core.Logic.{_⊎_, inl, inr}
+use Prim.Native.Nat.{ℕ, _+_, _≤_, _<_}
+use native.Mathlib.Omega.{arith}
+use lib.Dec.{ltb, eqb}
+use borrow.Author.Tests.{le-ltb, eq-eqb, ne-eqb}
+use Rattle.quantity.specs.Refusals.{Row, row, firstOf}
+use Rattle.quantity.specs.Range.{endNumber}
+use Rattle.quantity.specs.declared.refusal.Outcome.{Outcome}
+use Rattle.quantity.specs.declared.refusal.Outcome.the-variants.{Accepted, Refused}
+use Rattle.quantity.proofs.Rows.{none-applies, none-of-parts, orElse, parts, of-some-row}
+use Rattle.meter.specs.Card.{cardRows}
+use Rattle.meter.specs.State.{freshOf, zeros, stateRows, largestRegister, largestVolume, largestCount}
+use Rattle.meter.specs.Step.{countRows, readingRows, rangeRows, limitRows, sampleRows, stepOf}
+use Rattle.meter.specs.Sum.{Mark}
+use Rattle.meter.specs.Calls.{Calls, none, step}
+use Rattle.meter.specs.declared.card.Card.{Card}
+use Rattle.meter.specs.declared.state.Meter.{Meter}
+use Rattle.meter.specs.declared.state.FreshMeter.{FreshMeter}
+use Rattle.meter.specs.declared.sample.Sample.{Sample}
+use Rattle.meter.specs.declared.stepping.Stepped.{Stepped}
+use Rattle.meter.proofs.Accepted.{accepted-state, accepted-limits}
+use Rattle.meter.proofs.Answers.{standingRows, Answers, accepts, refuses-sample, refuses-standing, answers}
+use Rattle.meter.proofs.Theorem.{fresh-zeros}
+
+-- a meter whose card is accepted and that row 20 does not refuse
+pub record Sound (m : Meter) : Type 0 where
+  pub card : firstOf (cardRows (m .card)) ≡ Accepted
+  pub register : m .register ≤ largestRegister
+  pub volume : m .volume ≤ largestVolume
+  pub counts : m .accepted + m .refused ≤ largestCount
+
+-- the counts have room where no row of card or state refuses
+room : (m : Meter) → firstOf (standingRows m) ≡ Accepted → m .accepted + m .refused < largestCount
+room m e = accepted-state m (none-of-parts (cardRows (m .card)) (stateRows m) (none-applies (standingRows m) e) .1) .counts
+
+sound-after : (m : Meter) (s : Sample) (a : Stepped) → Answers m s a → Sound m → Sound (a .meter)
+sound-after m s a (accepts h) g =
+    let limits = accepted-limits m s (h .limit) in
+    let counts = accepted-state m (h .state) .counts in
+    record { card = g .card; register = limits .register; volume = limits .volume; counts = omega arith }
+sound-after m s a (refuses-sample n e f) g =
+    let counts = room m e in
+    record { card = g .card; register = g .register; volume = g .volume; counts = omega arith }
+sound-after m s a (refuses-standing n e) g = g
+
+answered : (m : Meter) (s : Sample) (a : Stepped) → a ≡ stepOf m s → Answers m s a
+answered m s a p = subst (λ (x : Stepped). Answers m s x) (sym p) (answers m s)
+
+pub sound-along : {m z : Meter} {ks : List Mark} → Sound m → Calls m ks z → Sound z
+sound-along g none = g
+sound-along g (step {m = m} s a p rest) = sound-along (sound-after m s a (answered m s a p) g) rest
+
+-- register and volume never pass their limits from a fresh meter
+pub sound : (c : Card) (m : Meter) → freshOf c ≡ FreshMeter.Made m → (ks : List Mark) (z : Meter) → Calls m ks z → Sound z
+sound c m e ks z calls =
+    let f = fresh-zeros c m e in
+    sound-along (subst Sound (f .1) (record { card = f .0; register = omega arith; volume = omega arith; counts = omega arith })) calls
+
+-- of the rows of card and state only 21 can refuse such a meter
+by-state : (m : Meter) → Sound m → firstOf (stateRows m) ≡ cond (eqb (m .accepted + m .refused) largestCount) (Refused 21) Accepted
+unfolding stateRows firstOf
+by-state m g =
+    simp
+    (le-ltb largestRegister (m .register) (g .register), le-ltb largestVolume (m .volume) (g .volume), le-ltb largestCount (m .accepted + m .refused) (g .counts))
+
+is-21 : (b : Bool) (n : ℕ) → cond b (Refused 21) Accepted ≡ Refused n → n ≡ 21
+is-21 true n e = cc
+is-21 false n e = let z : _≡_ {A = ℕ} 0 1 = cc in absurd (omega arith)
+
+pub only-21 : (m : Meter) (n : ℕ) → Sound m → firstOf (standingRows m) ≡ Refused n → n ≡ 21
+only-21 m n g e =
+    is-21 (eqb (m .accepted + m .refused) largestCount) n
+    (sym (by-state m g)
+    ∙ sym (ap (λ (o : Outcome). orElse o (firstOf (stateRows m))) (g .card))
+    ∙ sym (parts (cardRows (m .card)) (stateRows m))
+    ∙ e)
+
+-- and the rows of the sample have larger numbers
+sample-number : (m : Meter) (s : Sample) (n : ℕ) → firstOf (sampleRows m s) ≡ Refused n → 21 < n
+unfolding countRows readingRows rangeRows limitRows endNumber
+sample-number m s n e = of-some-row (λ (k : ℕ). 21 < k) (sampleRows m s) n (omega arith) e
+
+larger : (n : ℕ) → 21 < n → n ≡ 21 → ⊥
+larger n h e = omega arith
+
+-- how many of the calls were not refused by 21
+abbrev pub countsOf : Outcome → ℕ
+countsOf Accepted = 1
+countsOf (Refused n) = cond (eqb n 21) 0 1
+
+abbrev pub countedOf : {m z : Meter} {ks : List Mark} → Calls m ks z → ℕ
+countedOf none = 0
+countedOf (step s a p rest) = countsOf (a .outcome) + countedOf rest
+
+one-more : (m : Meter) (s : Sample) (a : Stepped) → Answers m s a → Sound m →
+    a .meter .accepted + a .meter .refused ≡ m .accepted + m .refused + countsOf (a .outcome)
+one-more m s a (accepts h) g = omega arith
+one-more m s a (refuses-sample n e f) g = simp (ne-eqb n 21 (larger n (sample-number m s n f))) (omega arith)
+one-more m s a (refuses-standing n e) g = simp (eq-eqb n 21 (only-21 m n g e)) (omega arith)
+
+counted-along : {m z : Meter} {ks : List Mark} → Sound m → (calls : Calls m ks z) → z .accepted + z .refused ≡ m .accepted + m .refused + countedOf calls
+counted-along g none = omega arith
+counted-along g (step {m = m} s a p rest) =
+    let h = answered m s a p in
+    omega (arith, counted-along (sound-after m s a h g) rest, one-more m s a h g)
+
+-- accepted plus refused is the number of calls not refused by 21
+pub counted : (c : Card) (m : Meter) → freshOf c ≡ FreshMeter.Made m → (ks : List Mark) (z : Meter) (calls : Calls m ks z) → z .accepted + z .refused ≡ countedOf calls
+counted c m e ks z calls =
+    let f = fresh-zeros c m e in
+    omega (arith, counted-along (sound c m e [] m none) calls, ap (λ (x : Meter). x .accepted + x .refused) (f .1))

@@ -1,0 +1,81 @@
+-- What the step's definition amounts to, for an accepted sample and for a refused one.
+-- Assumes nothing.
+use mathlib.Core.Path.{_≡_, refl, sym, _∙_, ap}
+use mathlib.Core.List.{List, [], _∷_, _++_}
+use mathlib.Core.Bool.{Bool, true, false}
+use mathlib.Core.Logic.{_↔_}
+use Prim.Native.Nat.{ℕ, _+_, _*_, _≤_, _<_}
+use native.Mathlib.Omega.{arith}
+use Rattle.quantity.specs.Refusals.{Row, firstOf, NoneApplies}
+use Rattle.quantity.specs.declared.refusal.Outcome.{Outcome}
+use Rattle.quantity.specs.declared.refusal.Outcome.the-variants.{Accepted, Refused}
+use Rattle.quantity.proofs.Rows.{none-applies, no-refusal, none-of-parts, none-together}
+use Rattle.meter.specs.Card.{cardRows}
+use Rattle.meter.specs.State.{stateRows}
+use Rattle.meter.specs.Step.{countRows, readingRows, rangeRows, limitRows, sampleRows, accepting, refusing, bySample, byStanding, stepOf}
+use Rattle.meter.specs.Calls.{isAccepted}
+use Rattle.meter.specs.declared.state.Meter.{Meter}
+use Rattle.meter.specs.declared.sample.Sample.{Sample}
+use Rattle.meter.specs.declared.stepping.Stepped.{Stepped}
+
+-- the rows that are tried before the sample's
+abbrev pub standingRows : Meter → List Row
+standingRows m = cardRows (m .card) ++ stateRows m
+
+-- no row refuses the sample
+pub record NoRowRefuses (m : Meter) (s : Sample) : Type 0 where
+  pub card : NoneApplies (cardRows (m .card))
+  pub state : NoneApplies (stateRows m)
+  pub count : NoneApplies (countRows (m .card) s)
+  pub reading : NoneApplies (readingRows (m .card) s)
+  pub range : NoneApplies (rangeRows (m .card) s)
+  pub limit : NoneApplies (limitRows m s)
+
+no-row-refuses : (m : Meter) (s : Sample) → NoneApplies (standingRows m) → NoneApplies (sampleRows m s) → NoRowRefuses m s
+no-row-refuses m s h g =
+    let p = none-of-parts (cardRows (m .card)) (stateRows m) h in
+    let q = none-of-parts (countRows (m .card) s) _ g in
+    let r = none-of-parts (readingRows (m .card) s) _ (q .1) in
+    let t = none-of-parts (rangeRows (m .card) s) (limitRows m s) (r .1) in
+    record { card = p .0; state = p .1; count = q .0; reading = r .0; range = t .0; limit = t .1 }
+
+-- What the step answers: it accepts exactly where no row refuses; a sample's row counts one more refused; a row of card or state leaves
+-- the meter unchanged.
+pub data Answers (m : Meter) (s : Sample) : Stepped → Type 0 where
+  accepts : NoRowRefuses m s → Answers m s (record { meter = accepting m s; outcome = Accepted })
+  refuses-sample : (n : ℕ) → firstOf (standingRows m) ≡ Accepted → firstOf (sampleRows m s) ≡ Refused n → Answers m s (record { meter = refusing m; outcome = Refused n })
+  refuses-standing : (n : ℕ) → firstOf (standingRows m) ≡ Refused n → Answers m s (record { meter = m; outcome = Refused n })
+
+by-sample : (m : Meter) (s : Sample) (o : Outcome) → firstOf (standingRows m) ≡ Accepted → firstOf (sampleRows m s) ≡ o → Answers m s (bySample m s o)
+by-sample m s Accepted e f = accepts (no-row-refuses m s (none-applies (standingRows m) e) (none-applies (sampleRows m s) f))
+by-sample m s (Refused n) e f = refuses-sample n e f
+
+by-standing : (m : Meter) (s : Sample) (o : Outcome) → firstOf (standingRows m) ≡ o → Answers m s (byStanding m s o)
+by-standing m s Accepted e = by-sample m s _ e refl
+by-standing m s (Refused n) e = refuses-standing n e
+
+pub answers : (m : Meter) (s : Sample) → Answers m s (stepOf m s)
+unfolding stepOf
+answers m s = by-standing m s _ refl
+
+-- a sample is accepted exactly when no row refuses it
+when-accepted : (m : Meter) (s : Sample) (a : Stepped) → Answers m s a → isAccepted (a .outcome) ≡ true → NoRowRefuses m s
+when-accepted m s a (accepts h) e = h
+when-accepted m s a (refuses-sample n f g) e = let z : _≡_ {A = ℕ} 0 1 = cc in absurd (omega arith)
+when-accepted m s a (refuses-standing n f) e = let z : _≡_ {A = ℕ} 0 1 = cc in absurd (omega arith)
+
+pub not-refused : (m : Meter) (s : Sample) → NoRowRefuses m s → stepOf m s ≡ record { meter = accepting m s; outcome = Accepted }
+unfolding stepOf
+not-refused m s h =
+    simp (
+      no-refusal (standingRows m) (none-together (cardRows (m .card)) (stateRows m) (h .card) (h .state)),
+      no-refusal (sampleRows m s)
+          (none-together (countRows (m .card) s) _ (h .count)
+          (none-together (readingRows (m .card) s) _ (h .reading) (none-together (rangeRows (m .card) s) (limitRows m s) (h .range) (h .limit)))),
+    )
+
+pub accepted-exactly : (m : Meter) (s : Sample) → (isAccepted (stepOf m s .outcome) ≡ true) ↔ NoRowRefuses m s
+accepted-exactly m s = (
+  when-accepted m s (stepOf m s) (answers m s),
+  λ h. ap (λ (a : Stepped). isAccepted (a .outcome)) (not-refused m s h),
+)

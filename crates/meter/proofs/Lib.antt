@@ -1,0 +1,12 @@
+-- Laws and theorems about the meter.
+pub mod Heats
+pub mod Keeping
+pub mod Accepted
+pub mod Along
+pub mod Answers
+pub mod Counts
+pub mod Elements
+pub mod Existence
+pub mod Runs
+pub mod Stages
+pub mod Theorem

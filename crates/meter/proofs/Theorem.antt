@@ -1,0 +1,95 @@
+-- Demand 3, proved: `register` is the statement `RegisterBounds` of specs/Register.antt.
+-- Assumes nothing.
+use mathlib.Core.Path.{_≡_, refl, sym, _∙_, ap, subst}
+use mathlib.Core.List.{List, [], _∷_}
+use mathlib.Core.Bool.{Bool, true, false, cond, _&&_}
+use Prim.Native.Nat.{ℕ, _+_, _*_, _≤_, _<_}
+use native.Mathlib.Nat.{le-div-iff-mul-le}
+use native.Mathlib.Omega.{arith}
+use lib.Dec.{ltb}
+use borrow.Author.Tests.{ltb-true, ltb-false}
+use Rattle.quantity.specs.Refusals.{firstOf}
+use Rattle.quantity.specs.declared.refusal.Outcome.{Outcome}
+use Rattle.quantity.specs.declared.refusal.Outcome.the-variants.{Accepted, Refused}
+use Rattle.water.specs.Table.{water}
+use Rattle.water.specs.Heat.{ExactHeat, exactHeat}
+use Rattle.water.proofs.Bounds.{water-bounded}
+use Rattle.water.proofs.ExactHeats as Exact
+use Rattle.meter.specs.Card.{cardRows}
+use Rattle.meter.specs.State.{freshOf, freshAnswer, zeros}
+use Rattle.meter.specs.Sample.{volumeOf, hasVolume, ts, tr, heatOf}
+use Rattle.meter.specs.Step.{accepting, refusing, stepOf}
+use Rattle.meter.specs.Sum.{Mark, Register, nothing, plus, sumFrom, allowanceFrom, Bounded}
+use Rattle.meter.specs.Calls.{Calls, none, step, isAccepted, markOf}
+use Rattle.meter.specs.Register.{heatRegister, RegisterBounds}
+use Rattle.meter.specs.declared.card.Card.{Card}
+use Rattle.meter.specs.declared.state.Meter.{Meter}
+use Rattle.meter.specs.declared.state.FreshMeter.{FreshMeter}
+use Rattle.meter.specs.declared.sample.Sample.{Sample}
+use Rattle.meter.specs.declared.stepping.Stepped.{Stepped}
+use Rattle.meter.proofs.Keeping.{Weighs, start, keep}
+use Rattle.meter.proofs.Answers.{NoRowRefuses, Answers, accepts, refuses-sample, refuses-standing, answers, not-refused, accepted-exactly}
+use Rattle.meter.proofs.Accepted.{accepted-card, accepted-pair, degrees-at-most}
+
+-- the exact heat of an accepted sample
+weighs : (m : Meter) (s : Sample) → NoRowRefuses m s → Weighs (hasVolume (m .card) s) (heatOf (m .card) s)
+unfolding heatOf
+weighs m s h =
+    let c = m .card in
+    let card = accepted-card c (h .card) in
+    let pair = accepted-pair c s (h .range) in
+    record {
+      fraction = Exact.lower-above-zero water water-bounded _ _ _ _;
+      none = λ e.
+          let no-volume : volumeOf c s ≡ 0 = omega (arith, ltb-false 0 (volumeOf c s) e) in
+          rw no-volume (Exact.nothing water _ _ _);
+      least = λ e.
+          Exact.at-least-2000 water water-bounded _ _ _ _ (ltb-true _ _ e) (omega (arith, pair .apart, card .delta-min .0)) (degrees-at-most _ _);
+    }
+
+-- the bounds after one call more
+abbrev After : Card → Sample → Stepped → ℕ → ExactHeat → Type 0
+After c s a n sum =
+    let r = heatRegister c in
+    let k = markOf s a in
+    Bounded (a .meter .register) (cond (r .own k && r .counts s) (n + 1) n) (cond (r .own k) (plus sum (r .heat s)) sum)
+
+one : (m : Meter) (s : Sample) (a : Stepped) (n : ℕ) (sum : ExactHeat) → Answers m s a → Bounded (m .register) n sum → After (m .card) s a n sum
+one m s a n sum (accepts h) b = keep _ _ _ _ _ (weighs m s h) b
+one m s a n sum (refuses-sample x e f) b = b
+one m s a n sum (refuses-standing x e) b = b
+
+-- the card never changes
+pub same-card : (m : Meter) (s : Sample) (a : Stepped) → Answers m s a → a .meter .card ≡ m .card
+same-card m s a (accepts h) = refl
+same-card m s a (refuses-sample x e f) = refl
+same-card m s a (refuses-standing x e) = refl
+
+from : {m z : Meter} {ks : List Mark} (c : Card) (n : ℕ) (sum : ExactHeat) → m .card ≡ c → Bounded (m .register) n sum → Calls m ks z →
+    Bounded (z .register) (allowanceFrom (heatRegister c) n ks) (sumFrom (heatRegister c) sum ks)
+from c n sum e b none = b
+from c n sum e b (step {m = m} s a p rest) =
+    let h = subst (λ (x : Stepped). Answers m s x) (sym p) (answers m s) in
+    from c _ _ (same-card m s a h ∙ e) (subst (λ (x : Card). After x s a n sum) e (one m s a n sum h b)) rest
+
+-- a fresh meter is that of an accepted card, with zeros
+by-card : (c : Card) (m : Meter) (o : Outcome) → freshAnswer o (zeros c) ≡ FreshMeter.Made m → (o ≡ Accepted) × (zeros c ≡ m)
+by-card c m Accepted e = (refl, cc)
+by-card c m (Refused n) e = let z : _≡_ {A = ℕ} 0 1 = cc in absurd (omega arith)
+
+pub fresh-zeros : (c : Card) (m : Meter) → freshOf c ≡ FreshMeter.Made m → (firstOf (cardRows c) ≡ Accepted) × (zeros c ≡ m)
+unfolding freshOf
+fresh-zeros c m e = by-card c m _ e
+
+pub register : RegisterBounds
+register c m e ks z calls =
+    let m-is = fresh-zeros c m e .1 in
+    from c 0 nothing (sym (ap (λ (x : Meter). x .card) m-is)) (subst (λ (x : Meter). Bounded (x .register) 0 nothing) m-is start) calls
+
+-- an accepted sample with a volume raises the register
+pub raises : (m : Meter) (s : Sample) → isAccepted (stepOf m s .outcome) ≡ true → hasVolume (m .card) s ≡ true → m .register < stepOf m s .meter .register
+raises m s e v =
+    let h = accepted-exactly m s .0 e in
+    let w = weighs m s h in
+    let at-least = le-div-iff-mul-le (w .fraction) .1 (w .least v) in
+    subst (λ (a : Stepped). m .register < a .meter .register) (sym (not-refused m s h)) (omega (arith, at-least))

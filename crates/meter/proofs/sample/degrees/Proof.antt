@@ -1,0 +1,27 @@
+-- `meter::sample::degrees` meets its contract: by the answer.
+-- Assumes nothing.
+use borrow.Author.Needs.{needs}
+use Rattle.meter.proofs.sample.degrees.Statement.{statement}
+use Rattle.meter.proofs.sample.degrees.Tie as tie
+
+enum-known-measured : tie.Need-enum-known-measured
+enum-known-measured c = search needs
+
+enum-told : tie.Need-enum-told
+enum-told c = search needs
+
+enum-told-2 : tie.Need-enum-told-2
+enum-told-2 c = search needs
+
+returns : tie.Need-returns
+returns c = search needs
+
+returns-2 : tie.Need-returns-2
+returns-2 c = simp (c .enum-told .given .1)
+
+returns-3 : tie.Need-returns-3
+returns-3 c = simp (c .enum-told2 .given .1)
+
+pub degrees-spec : {M : Type 1} → statement M
+degrees-spec =
+    tie.close (tie.spec enum-known-measured enum-told enum-told-2 returns returns-2 returns-3)

@@ -1,0 +1,17 @@
+-- `meter::state::passes_a_limit` meets its contract: by the tests that led to each return.
+-- Assumes nothing.
+use borrow.Author.Tests.{lt-ltb, le-ltb}
+use Rattle.meter.proofs.state.passes_a_limit.Statement.{statement}
+use Rattle.meter.proofs.state.passes_a_limit.Tie as tie
+
+returns : tie.Need-returns
+returns c = simp (lt-ltb _ _ (c .if1 .taken))
+
+returns-2 : tie.Need-returns-2
+returns-2 c = simp (le-ltb _ _ (c .before .if1 .left), lt-ltb _ _ (c .if2 .taken))
+
+returns-3 : tie.Need-returns-3
+returns-3 c = simp (le-ltb _ _ (c .before .if1 .left), le-ltb _ _ (c .if2 .left))
+
+pub passes-a-limit-spec : {M : Type 1} → statement M
+passes-a-limit-spec = tie.close (tie.spec returns returns-2 returns-3)

@@ -1,0 +1,52 @@
+-- `meter::stepping::take_amounts` meets its contract: by the outcome of the last rows.
+-- Assumes nothing.
+use borrow.Author.Needs.{needs}
+use mathlib.Core.Path.{sym, _∙_, ap}
+use Rattle.quantity.specs.Refusals.{firstOf}
+use Rattle.meter.specs.Step.{limitRows, bySample}
+use Rattle.meter.proofs.Accepted.{accepted-limits}
+use Rattle.meter.proofs.Stages.{passed, countable}
+use Rattle.meter.proofs.stepping.take_amounts.Statement.{statement}
+use Rattle.meter.proofs.stepping.take_amounts.Tie as tie
+
+limit-refusal-requires : tie.Need-limit-refusal-requires
+limit-refusal-requires c κs = search needs
+
+enum-told : tie.Need-enum-told
+enum-told c = search needs
+
+accept-requires : tie.Need-accept-requires
+accept-requires c κs =
+    let d = c .before .before in
+    let p = d .before .pre in
+    let h = accepted-limits _ _ (passed (limitRows (d .before .args .m) (d .before .args .s)) _ (d .limit-refusal .ensures) (c .enum-told .given .1)) in
+    rw (p .heat-is, p .volume-is) (record { register = h .register; volume-room = h .volume; counts = countable _ (p .counted .standing .state) })
+
+enum-known-refusal : tie.Need-enum-known-refusal
+enum-known-refusal c = search needs
+
+refuse-requires : tie.Need-refuse-requires
+refuse-requires c κs = countable _ (c .before .before .before .before .pre .counted .standing .state)
+
+returns : tie.Need-returns
+returns c =
+    let d = c .before .before .before in
+    let p = d .before .pre in
+    simp (sym (d .limit-refusal .ensures) ∙ c .before .enum-told .given .1, c .accept .ensures, p .heat-is, p .volume-is)
+
+returns-2 : tie.Need-returns-2
+returns-2 c =
+    let d = c .before .before .before .before in
+    simp (sym (d .limit-refusal .ensures) ∙ c .before .before .refusal .given .1, c .refuse .ensures)
+
+pub take-amounts-spec : {M : Type 1} → statement M
+take-amounts-spec =
+    tie.close
+    (tie.spec
+    limit-refusal-requires
+    enum-told
+    accept-requires
+    enum-known-refusal
+    refuse-requires
+    returns
+    returns-2)

@@ -1,0 +1,46 @@
+-- A sample's volume, temperatures and exact heat, document 01, "Meter's step": "A sample is pulses, seconds, supply reading, return
+-- reading. Volume u = pulses × mL per pulse. Its exact heat in mJ is 1000000×u×(H(ts)−H(tr))/V, V at the card's place."
+use Prim.Native.Nat.{ℕ, _*_}
+use mathlib.Core.Bool.{Bool}
+use lib.Dec.{ltb}
+use Rattle.quantity.specs.declared.units.Temperature.{Temperature}
+use Rattle.platinum.specs.Temperature.{temperatureOf}
+use Rattle.platinum.specs.declared.reading.Measured.{Measured}
+use Rattle.water.specs.Table.{water}
+use Rattle.water.specs.Pair.{atPlace}
+use Rattle.water.specs.Heat.{ExactHeat, exactHeat}
+use Rattle.meter.specs.declared.card.Card.{Card}
+use Rattle.meter.specs.declared.sample.Sample.{Sample}
+
+-- u, in mL
+unfoldable pub volumeOf : Card → Sample → ℕ
+volumeOf c s = s .pulses * c .«ml_per_pulse»
+
+-- "A sample has a volume when its u is above zero."
+abbrev pub hasVolume : Card → Sample → Bool
+hasVolume c s = ltb 0 (volumeOf c s)
+
+-- what the two readings give
+abbrev pub supplyOf : Card → Sample → Measured
+supplyOf c s = temperatureOf (c .sensor) (s .«supply_reading»)
+
+abbrev pub returnOf : Card → Sample → Measured
+returnOf c s = temperatureOf (c .sensor) (s .«return_reading»)
+
+-- A default, 0 °C, where a reading has no temperature, so that the definitions below speak of any sample. No accepted sample has it:
+-- rows 32 and 33 refuse such a sample.
+abbrev pub degreesOf : Measured → Temperature
+degreesOf (Measured.At t) = t
+degreesOf (Measured.Outside e) = record { 0 = 0 }
+degreesOf Measured.NoSensor = record { 0 = 0 }
+
+-- ts and tr
+abbrev pub ts : Card → Sample → Temperature
+ts c s = degreesOf (supplyOf c s)
+
+abbrev pub tr : Card → Sample → Temperature
+tr c s = degreesOf (returnOf c s)
+
+-- the exact heat: the step takes its floor, and the sum of demand 3 the fraction
+unfoldable pub heatOf : Card → Sample → ExactHeat
+heatOf c s = exactHeat water (volumeOf c s) (ts c s) (tr c s) (atPlace (c .place) (ts c s) (tr c s))

@@ -1,0 +1,106 @@
+// A sample and the rows that refuse it by itself, whatever the meter's state (document 01, "Meter's step" and the row "Sample").
+use crate::card::Card;
+use platinum::Measured;
+use quantity::Difference;
+use quantity::Outcome;
+use quantity::Position;
+use quantity::Temperature;
+use quantity::is_outside;
+ghost use mathlib.Core.Path.{_≡_};
+ghost use mathlib.Core.Bool.{_||_};
+ghost use mathlib.Core.List.{_++_};
+ghost use Prim.Native.Nat.{_*_, _≤_};
+ghost use lib.Dec.{ltb};
+ghost use Rattle.quantity.specs.Refusals.{firstOf, NoneApplies};
+ghost use Rattle.quantity.specs.declared.range.Position.the-variants.{Supply, Return};
+ghost use Rattle.platinum.specs.Refusal.{endRows};
+ghost use Rattle.meter.specs.Card.{cardRows};
+ghost use Rattle.meter.specs.Sample.{degreesOf};
+ghost use Rattle.meter.specs.Step.{outsideTheta, countRows, rangeRows};
+ghost use Rattle.meter.specs.Stages.{Paired};
+
+// What the flow sensor and the temperature sensor pair gave in some seconds. Any content can stand here.
+pub struct Sample {
+    pub pulses: u64,
+    pub seconds: u64,
+    pub supply_reading: u64,
+    pub return_reading: u64,
+}
+
+// Rows 30 and 31.
+pub(crate) fn count_refusal(card: Card, s: Sample) -> Outcome
+    requires { ⌜ NoneApplies (cardRows card) ⌝ }
+    ensures { λ r. ⌜ r ≡ firstOf (countRows card s) ⌝ }
+{
+    let r = Outcome::Accepted.or_row(is_outside(s.seconds, 1, 3600), 30);
+    r.or_row(is_too_much(s.pulses, card.ml_per_pulse), 31)
+}
+
+// Few enough pulses are tested first, so that the product fits.
+fn is_too_much(pulses: u64, ml_per_pulse: u64) -> bool
+    requires { ⌜ «ml_per_pulse» ≤ 100000 ⌝ }
+    ensures { λ r. ⌜ r ≡ (ltb 1000000 pulses || ltb 1000000 (pulses * «ml_per_pulse»)) ⌝ }
+{
+    if 1000000 < pulses {
+        return true;
+    }
+    1000000 < pulses * ml_per_pulse
+}
+
+// Rows 32 and 33.
+pub(crate) fn reading_refusal(supply: Measured, back: Measured) -> Outcome
+    ensures { λ r. ⌜ r ≡ firstOf (endRows Supply supply ++ endRows Return back) ⌝ }
+{
+    let refusal = supply.end_refusal(Position::Supply);
+    match refusal {
+        Outcome::Accepted => back.end_refusal(Position::Return),
+        Outcome::Refused(number) => Outcome::Refused(number),
+    }
+}
+
+// The temperature, or the default of one that is missing: such a sample is refused by then.
+pub(crate) fn degrees(measured: Measured) -> Temperature
+    ensures { λ r. ⌜ r ≡ degreesOf measured ⌝ }
+{
+    match measured {
+        Measured::At(t) => t,
+        Measured::Outside(_) => Temperature(0),
+        Measured::NoSensor => Temperature(0),
+    }
+}
+
+// Rows 34 to 39, of the supply and the return temperature.
+pub(crate) fn range_refusal(
+    card: Card,
+    s: Sample,
+    supply: Temperature,
+    back: Temperature,
+) -> Outcome
+    requires { ⌜ Paired card s supply back ⌝ }
+    ensures { λ r. ⌜ r ≡ firstOf (rangeRows card s) ⌝ }
+{
+    let difference = supply.distance(back);
+    let least = Difference::of_kelvins(card.delta_min as u32);
+    let largest = Difference::of_kelvins(card.delta_max as u32);
+    let r = Outcome::Accepted.or_row(is_outside_theta(card, supply), 34);
+    let r = r.or_row(is_outside_theta(card, back), 35);
+    let r = r.or_row(supply.is_below(back), 36);
+    let r = r.or_row(difference.is_below(least), 37);
+    let r = r.or_row(largest.is_below(difference), 38);
+    r.or_row(
+        card.qs * s.seconds < s.pulses * card.ml_per_pulse * 3600,
+        39,
+    )
+}
+
+fn is_outside_theta(card: Card, t: Temperature) -> bool
+    requires { ⌜ NoneApplies (cardRows card) ⌝ }
+    ensures { λ r. ⌜ r ≡ outsideTheta card t ⌝ }
+{
+    let low = Temperature::of_degrees(card.theta_min as u32);
+    if t.is_below(low) {
+        return true;
+    }
+    let high = Temperature::of_degrees(card.theta_max as u32);
+    high.is_below(t)
+}

@@ -1,0 +1,154 @@
+// The meter's step (document 01, "Meter's step"), in the order of the refusal table: card and state, then the sample's counts, its
+// readings, its ranges, and what it would add.
+use crate::sample::Sample;
+use crate::sample::count_refusal;
+use crate::sample::degrees;
+use crate::sample::range_refusal;
+use crate::sample::reading_refusal;
+use crate::state::LARGEST_REGISTER;
+use crate::state::LARGEST_VOLUME;
+use crate::state::Meter;
+use crate::state::meter_of;
+use crate::state::standing_refusal;
+use quantity::Outcome;
+use quantity::Temperature;
+ghost use mathlib.Core.Path.{_≡_};
+ghost use mathlib.Core.Bool.{_||_};
+ghost use mathlib.Core.List.{_++_};
+ghost use Prim.Native.Nat.{_+_, _≤_, _<_};
+ghost use lib.Dec.{ltb};
+ghost use Rattle.quantity.specs.Refusals.{firstOf};
+ghost use Rattle.meter.specs.State.{largestRegister, largestVolume, largestCount};
+ghost use Rattle.meter.specs.Step.{countRows, readingRows, rangeRows, limitRows, sampleRows, refusing, bySample, stepOf};
+ghost use Rattle.meter.specs.Stages.{Standing, Counted, Compared, Ranged, Heated, Fits, adding};
+
+// The meter after a step, and no refusal or its number.
+pub struct Stepped {
+    pub meter: Meter,
+    pub outcome: Outcome,
+}
+
+// Takes one sample. Refused by a row of card or state, the meter is unchanged; refused by a row of the sample, its refused count is one
+// more; accepted, the floored heat goes to the register, the volume to the volume, and the accepted count is one more.
+pub fn step(m: Meter, s: Sample) -> Stepped
+    ensures { λ r. ⌜ r ≡ stepOf m s ⌝ }
+{
+    let refusal = standing_refusal(m);
+    match refusal {
+        Outcome::Accepted => take_sample(m, s),
+        Outcome::Refused(number) => Stepped {
+            meter: m,
+            outcome: Outcome::Refused(number),
+        },
+    }
+}
+
+fn take_sample(m: Meter, s: Sample) -> Stepped
+    requires { ⌜ Standing m ⌝ }
+    ensures { λ r. ⌜ r ≡ bySample m s (firstOf (sampleRows m s)) ⌝ }
+{
+    let card = m.card;
+    let refusal = count_refusal(card, s);
+    match refusal {
+        Outcome::Accepted => take_readings(m, s),
+        Outcome::Refused(number) => refuse(m, number),
+    }
+}
+
+fn take_readings(m: Meter, s: Sample) -> Stepped
+    requires { ⌜ Counted m s ⌝ }
+    ensures { λ r. ⌜ r ≡ bySample m s (firstOf (readingRows (m .card) s ++ (rangeRows (m .card) s ++ limitRows m s))) ⌝ }
+{
+    let sensor = m.card.sensor;
+    let supply = platinum::temperature(sensor, s.supply_reading);
+    let back = platinum::temperature(sensor, s.return_reading);
+    let refusal = reading_refusal(supply, back);
+    match refusal {
+        Outcome::Accepted => take_pair(m, s, degrees(supply), degrees(back)),
+        Outcome::Refused(number) => refuse(m, number),
+    }
+}
+
+fn take_pair(m: Meter, s: Sample, supply: Temperature, back: Temperature) -> Stepped
+    requires { ⌜ Compared m s supply back ⌝ }
+    ensures { λ r. ⌜ r ≡ bySample m s (firstOf (rangeRows (m .card) s ++ limitRows m s)) ⌝ }
+{
+    let card = m.card;
+    let refusal = range_refusal(card, s, supply, back);
+    match refusal {
+        Outcome::Accepted => take_heat(m, s, supply, back),
+        Outcome::Refused(number) => refuse(m, number),
+    }
+}
+
+fn take_heat(m: Meter, s: Sample, supply: Temperature, back: Temperature) -> Stepped
+    requires { ⌜ Ranged m s supply back ⌝ }
+    ensures { λ r. ⌜ r ≡ bySample m s (firstOf (limitRows m s)) ⌝ }
+{
+    let card = m.card;
+    let volume = s.pulses * card.ml_per_pulse;
+    let answer = water::heat(volume, supply, back, card.place);
+    match answer {
+        water::Heat::Millijoules(heat) => take_amounts(m, s, heat, volume),
+        water::Heat::Refused(number) => refuse(m, number),
+    }
+}
+
+fn take_amounts(m: Meter, s: Sample, heat: u64, volume: u64) -> Stepped
+    requires { ⌜ Heated m s heat volume ⌝ }
+    ensures { λ r. ⌜ r ≡ bySample m s (firstOf (limitRows m s)) ⌝ }
+{
+    let refusal = limit_refusal(m, s, heat, volume);
+    match refusal {
+        Outcome::Accepted => accept(m, heat, volume),
+        Outcome::Refused(number) => refuse(m, number),
+    }
+}
+
+// Rows 40 and 41, of a heat in mJ and a volume in mL.
+fn limit_refusal(m: Meter, s: Sample, heat: u64, volume: u64) -> Outcome
+    requires { ⌜ Heated m s heat volume ⌝ }
+    ensures { λ r. ⌜ r ≡ firstOf (limitRows m s) ⌝ }
+{
+    let r = Outcome::Accepted.or_row(m.card.ps * 1000 * s.seconds < heat, 40);
+    r.or_row(passes_limits(m.register, heat, m.volume, volume), 41)
+}
+
+// A sum can pass 64 bits, so what is added is compared with the room that is left.
+fn passes_limits(register: u64, heat: u64, volume: u64, added: u64) -> bool
+    requires { ⌜ (register ≤ largestRegister) × (volume ≤ largestVolume) ⌝ }
+    ensures { λ r. ⌜ r ≡ (ltb largestRegister (register + heat) || ltb largestVolume (volume + added)) ⌝ }
+{
+    if LARGEST_REGISTER - register < heat {
+        return true;
+    }
+    LARGEST_VOLUME - volume < added
+}
+
+fn accept(m: Meter, heat: u64, volume: u64) -> Stepped
+    requires { ⌜ Fits m heat volume ⌝ }
+    ensures { λ r. ⌜ r ≡ adding m heat volume ⌝ }
+{
+    let card = m.card;
+    Stepped {
+        meter: meter_of(
+            card,
+            m.register + heat,
+            m.volume + volume,
+            m.accepted + 1,
+            m.refused,
+        ),
+        outcome: Outcome::Accepted,
+    }
+}
+
+fn refuse(m: Meter, number: u64) -> Stepped
+    requires { ⌜ m .accepted + m .refused < largestCount ⌝ }
+    ensures { λ r. ⌜ r ≡ record { meter = refusing m; outcome = Outcome.Refused number } ⌝ }
+{
+    let card = m.card;
+    Stepped {
+        meter: meter_of(card, m.register, m.volume, m.accepted, m.refused + 1),
+        outcome: Outcome::Refused(number),
+    }
+}
