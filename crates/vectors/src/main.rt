@@ -4,6 +4,7 @@ mod answers;
 mod meters;
 mod temperatures;
 mod text;
+mod verdicts;
 mod waters;
 
 use libc::STDIN_FILENO;
@@ -37,6 +38,7 @@ fn answer(line: &[u8]) {
             b'Q' => waters::of_published(line),
             b'F' => meters::of_card(line),
             b'M' => meters::of_state(line),
+            b'V' => verdicts::of_point(line),
             _ => {}
         }
     }

@@ -1,0 +1,13 @@
+-- Laws that this crate's proofs cite, and those of the crates above it.
+pub mod ClassFigures
+pub mod Classes
+pub mod Edges
+pub mod Mirrored
+pub mod Passing
+pub mod Pieces
+pub mod Positive
+pub mod Ranges
+pub mod Room
+pub mod Verdicts
+pub mod WholeCap
+pub mod Widened

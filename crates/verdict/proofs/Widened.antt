@@ -1,0 +1,78 @@
+-- A wider limit never turns a pass into a fail.
+-- Assumes nothing.
+use mathlib.Core.Path.{_≡_, refl, sym, _∙_}
+use mathlib.Core.Bool.{Bool, true, false}
+use Prim.Native.Nat.{ℕ}
+use native.Mathlib.Omega.{arith}
+use Rattle.quantity.specs.Refusals.{outside, firstOf, orRow}
+use Rattle.quantity.specs.declared.refusal.Outcome.{Outcome}
+use Rattle.quantity.specs.declared.refusal.Outcome.the-variants.{Accepted, Refused as RowRefused}
+use Rattle.verdict.specs.Fraction.{whole, times, AtMost}
+use Rattle.verdict.specs.Limit.{figuresOf, calculatorLimit, pairLimit, flowSensorSum, flowSensorLimit, completeLimit, partLimit, limitOf}
+use Rattle.verdict.specs.Rows.{valueOutside, verdictRows, Admitted}
+use Rattle.verdict.specs.Verdict.{passes, answer, refusedOr, verdictOf}
+use Rattle.verdict.specs.declared.limit.Fraction.{Fraction}
+use Rattle.verdict.specs.declared.point.TestPoint.{TestPoint}
+use Rattle.verdict.specs.declared.bench.Verdict.the-variants.{Pass}
+use Rattle.verdict.proofs.Passing.{wider}
+use Rattle.verdict.proofs.Positive.{limit-positive}
+use Rattle.verdict.proofs.Verdicts.{last-row, both}
+
+-- a pass comes only where no row refuses and the comparison holds
+only : (o : Outcome) (b : Bool) → refusedOr o (answer b) ≡ Pass → (o ≡ Accepted) × (b ≡ true)
+unfolding refusedOr
+only (RowRefused n) b e = (cc, cc)
+only Accepted true e = (refl, refl)
+only Accepted false e = (refl, cc)
+
+-- what a pass tells, and what makes one
+record Passed (p : TestPoint) (i x : ℕ) : Type 0 where
+  admitted : Admitted p
+  in-range : valueOutside i x ≡ false
+  within : passes (limitOf (figuresOf (p .class)) p) i x ≡ true
+
+tells : (p : TestPoint) (i x : ℕ) → verdictOf p i x ≡ Pass → Passed p i x
+unfolding verdictOf
+tells p i x e =
+    let s = only (firstOf (verdictRows p i x)) (passes (limitOf (figuresOf (p .class)) p) i x) e in
+    let b = both _ _ _ (last-row p i x ∙ s .0) in
+    record { admitted = b .0; in-range = b .1; within = s .1 }
+
+makes : (p : TestPoint) (i x : ℕ) → Passed p i x → verdictOf p i x ≡ Pass
+unfolding verdictOf refusedOr orRow
+makes p i x h =
+    let r : firstOf (verdictRows p i x) ≡ Accepted = sym (last-row p i x) ∙ simp (h .admitted, h .in-range) in
+    simp (r, h .within)
+
+-- what passes at one test point passes at every other whose limit is no smaller
+pub widened : (p w : TestPoint) (i x : ℕ) → Admitted w → AtMost (limitOf (figuresOf (p .class)) p) (limitOf (figuresOf (w .class)) w) → verdictOf p i x ≡ Pass → verdictOf w i x ≡ Pass
+widened p w i x a h e =
+    let t = tells p i x e in
+    makes w i x
+    (record {
+      admitted = a;
+      in-range = t .in-range;
+      within = wider (limitOf (figuresOf (p .class)) p) _ i x (limit-positive _ _ (t .admitted)) h (t .within);
+    })
+
+abbrev atStage : ℕ → TestPoint → TestPoint
+atStage s p =
+    record {
+      part = p .part;
+      class = p .class;
+      stage = s;
+      «delta_min» = p .«delta_min»;
+      difference = p .difference;
+      qp = p .qp;
+      q = p .q;
+    }
+
+twice : (x : Fraction) → AtMost x (times (whole 2) x)
+unfolding times
+twice x = omega arith
+
+-- what passes at verification passes in service
+pub in-service : (p : TestPoint) (i x : ℕ) → verdictOf (atStage 1 p) i x ≡ Pass → verdictOf (atStage 2 p) i x ≡ Pass
+unfolding limitOf partLimit completeLimit flowSensorLimit flowSensorSum pairLimit calculatorLimit outside
+in-service p i x e =
+    widened (atStage 1 p) (atStage 2 p) i x (tells (atStage 1 p) i x e .admitted) (twice (partLimit (figuresOf (p .class)) p)) e

@@ -1,0 +1,72 @@
+// The maximum permissible error of a test point, as an exact fraction of percent.
+use crate::class::Figures;
+use crate::point::TestPoint;
+ghost use mathlib.Core.Path.{_≡_};
+ghost use Prim.Native.Nat.{_+_, _*_, _^_, _≤_, min};
+ghost use Rattle.verdict.specs.Fraction.{Represents};
+ghost use Rattle.verdict.specs.Limit.{Bounded, partLimit, limitOf};
+ghost use Rattle.verdict.specs.Rows.{Admitted};
+
+// An exact fraction: numerator over denominator. That of a limit is above zero.
+pub(crate) struct Fraction {
+    pub(crate) numerator: u64,
+    pub(crate) denominator: u64,
+}
+
+// The flow sensor's limit at verification, times 100 × q: what the cap leaves of constant + factor × qp/q.
+fn flow_sensor_part(figures: Figures, qp: u64, q: u64) -> u64
+    requires { ⌜ (Bounded figures) × (qp ≤ 10 ^ 9) × (q ≤ 10 ^ 9) ⌝ }
+    ensures { λ r. ⌜ r ≡ min (figures .constant * q + figures .factor * qp) (figures .cap * q) ⌝ }
+{
+    let sum = figures.constant * q + figures.factor * qp;
+    let most = figures.cap * q;
+    if sum <= most { sum } else { most }
+}
+
+// The limit of the point's part at verification. The calculator's 0.5 + Δmin/Δ and the pair's 0.5 + 3×Δmin/Δ are counted
+// in 1/(2×D) percent, the flow sensor's in 1/(100×q): so each number fits 64 bits, for figures of up to 100 percent.
+fn part_limit(figures: Figures, point: TestPoint) -> Fraction
+    requires { ⌜ (Bounded figures) × (Admitted point) ⌝ }
+    ensures { λ r. ⌜ (Represents r (partLimit figures point)) × (r .numerator ≤ 10 ^ 18) ⌝ }
+{
+    let d = point.difference.0;
+    let calculator = d + 200 * point.delta_min;
+    let pair = d + 600 * point.delta_min;
+    let flow = flow_sensor_part(figures, point.qp, point.q);
+    let per_difference = 2 * d;
+    let per_flow = 100 * point.q;
+    let part = point.part;
+    match part {
+        1 => Fraction {
+            numerator: calculator,
+            denominator: per_difference,
+        },
+        2 => Fraction {
+            numerator: pair,
+            denominator: per_difference,
+        },
+        3 => Fraction {
+            numerator: flow,
+            denominator: per_flow,
+        },
+        _ => Fraction {
+            numerator: (calculator + pair) * per_flow + flow * per_difference,
+            denominator: per_difference * per_flow,
+        },
+    }
+}
+
+// The limit at the point's stage: in service, twice that of verification.
+pub(crate) fn limit(figures: Figures, point: TestPoint) -> Fraction
+    requires { ⌜ (Bounded figures) × (Admitted point) ⌝ }
+    ensures { λ r. ⌜ Represents r (limitOf figures point) ⌝ }
+{
+    let at_verification = part_limit(figures, point);
+    if point.stage == 1 {
+        return at_verification;
+    }
+    Fraction {
+        numerator: 2 * at_verification.numerator,
+        denominator: at_verification.denominator,
+    }
+}
