@@ -12,14 +12,19 @@ use Rattle.quantity.specs.Refusals.{outside, NoneApplies}
 use Rattle.quantity.proofs.Conditions.{neither, both, inside}
 use Rattle.quantity.specs.Units.{isColder, distanceOf}
 use Rattle.quantity.specs.declared.units.Temperature.{Temperature}
+use Rattle.quantity.specs.declared.range.Position.{Position}
+use Rattle.quantity.specs.declared.range.Position.the-variants.{Supply, Return}
+use Rattle.quantity.specs.declared.range.End.the-variants.{Low, High}
+use Rattle.quantity.proofs.Rows.{none-of-parts}
+use Rattle.platinum.specs.Refusal.{endRows}
 use Rattle.platinum.specs.declared.reading.Measured.{Measured}
 use Rattle.platinum.specs.declared.reading.Measured.the-variants.{At, Outside, NoSensor}
 use Rattle.platinum.specs.Temperature.{temperatureOf}
 use Rattle.platinum.proofs.Answer.{at-most}
 use Rattle.meter.specs.Card.{cardRows}
 use Rattle.meter.specs.State.{stateRows, largestRegister, largestVolume, largestCount}
-use Rattle.meter.specs.Sample.{volumeOf, supplyOf, returnOf, degreesOf, ts, tr, heatOf}
-use Rattle.meter.specs.Step.{countRows, rangeRows, limitRows}
+use Rattle.meter.specs.Sample.{volumeOf, supplyOf, returnOf, temperatureOrMissing, ts, tr, heatOf}
+use Rattle.meter.specs.Step.{countRows, readingRows, rangeRows, limitRows}
 use Rattle.water.specs.Heat.{floored}
 use Rattle.meter.specs.declared.card.Card.{Card}
 use Rattle.meter.specs.declared.state.Meter.{Meter}
@@ -112,14 +117,31 @@ accepted-limits m s h =
     let room = neither _ _ (h .1 .0) in
     record { register = ltb-false _ _ (room .0); volume = ltb-false _ _ (room .1) }
 
+-- both readings have a temperature: the default of a missing one is never that of an accepted sample
+has-temperature : (p : Position) (x : Measured) → NoneApplies (endRows p x) → (t : Temperature) × (x ≡ At t)
+has-temperature p (At t) h = (t, refl)
+has-temperature p (Outside Low) h = let z : _≡_ {A = ℕ} 0 1 = cc (h .0) in absurd (omega arith)
+has-temperature p (Outside High) h = let z : _≡_ {A = ℕ} 0 1 = cc (h .1 .0) in absurd (omega arith)
+has-temperature p NoSensor h = let z : _≡_ {A = ℕ} 0 1 = cc (h .0) in absurd (omega arith)
+
+pub record HasTemperatures (c : Card) (s : Sample) : Type 0 where
+  pub supply : (t : Temperature) × (supplyOf c s ≡ At t)
+  pub returned : (t : Temperature) × (returnOf c s ≡ At t)
+
+pub has-temperatures : (c : Card) (s : Sample) → NoneApplies (readingRows c s) → HasTemperatures c s
+unfolding readingRows
+has-temperatures c s h =
+    let p = none-of-parts (endRows Supply (supplyOf c s)) (endRows Return (returnOf c s)) h in
+    record { supply = has-temperature Supply _ (p .0); returned = has-temperature Return _ (p .1) }
+
 -- a temperature of the definitions, the default among them, is at most 180.00 °C
-by-answer : (x : Measured) → ((t : Temperature) → x ≡ At t → t .0 ≤ 18000) → degreesOf x .0 ≤ 18000
+by-answer : (x : Measured) → ((t : Temperature) → x ≡ At t → t .0 ≤ 18000) → temperatureOrMissing x .0 ≤ 18000
 by-answer (At t) h = h t refl
 by-answer (Outside e) h = omega arith
 by-answer NoSensor h = omega arith
 
-pub degrees-at-most : (field r : ℕ) → degreesOf (temperatureOf field r) .0 ≤ 18000
-degrees-at-most field r = by-answer (temperatureOf field r) (at-most field r)
+pub temperature-at-most : (field r : ℕ) → temperatureOrMissing (temperatureOf field r) .0 ≤ 18000
+temperature-at-most field r = by-answer (temperatureOf field r) (at-most field r)
 
 -- products of an accepted card's and an accepted sample's numbers fit 64 bits
 pub product-fits : (a b : ℕ) → a ≤ 10 ^ 12 → b ≤ 3600 → a * b < 2 ^ 64

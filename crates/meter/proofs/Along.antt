@@ -15,7 +15,7 @@ use Rattle.quantity.specs.declared.refusal.Outcome.the-variants.{Accepted, Refu
 use Rattle.quantity.proofs.Rows.{none-applies, none-of-parts, orElse, parts, of-some-row}
 use Rattle.meter.specs.Card.{cardRows}
 use Rattle.meter.specs.State.{freshOf, zeros, stateRows, largestRegister, largestVolume, largestCount}
-use Rattle.meter.specs.Step.{countRows, readingRows, rangeRows, limitRows, sampleRows, stepOf}
+use Rattle.meter.specs.Step.{cardAndStateRows, countRows, readingRows, rangeRows, limitRows, sampleRows, stepOf}
 use Rattle.meter.specs.Sum.{Mark}
 use Rattle.meter.specs.Calls.{Calls, none, step}
 use Rattle.meter.specs.declared.card.Card.{Card}
@@ -24,69 +24,84 @@ use Rattle.meter.specs.declared.state.FreshMeter.{FreshMeter}
 use Rattle.meter.specs.declared.sample.Sample.{Sample}
 use Rattle.meter.specs.declared.stepping.Stepped.{Stepped}
 use Rattle.meter.proofs.Accepted.{accepted-state, accepted-limits}
-use Rattle.meter.proofs.Answers.{standingRows, Answers, accepts, refuses-sample, refuses-standing, answers}
+use Rattle.meter.proofs.Answers.{Answers, accepts, refuses-sample, refuses-before, answered}
 use Rattle.meter.proofs.Theorem.{fresh-zeros}
 
 -- a meter whose card is accepted and that row 20 does not refuse
-pub record Sound (m : Meter) : Type 0 where
+pub record WithinLimits (m : Meter) : Type 0 where
   pub card : firstOf (cardRows (m .card)) ≡ Accepted
   pub register : m .register ≤ largestRegister
   pub volume : m .volume ≤ largestVolume
   pub counts : m .accepted + m .refused ≤ largestCount
 
 -- the counts have room where no row of card or state refuses
-room : (m : Meter) → firstOf (standingRows m) ≡ Accepted → m .accepted + m .refused < largestCount
-room m e = accepted-state m (none-of-parts (cardRows (m .card)) (stateRows m) (none-applies (standingRows m) e) .1) .counts
+pub room : (m : Meter) → firstOf (cardAndStateRows m) ≡ Accepted → m .accepted + m .refused < largestCount
+room m e = accepted-state m (none-of-parts (cardRows (m .card)) (stateRows m) (none-applies (cardAndStateRows m) e) .1) .counts
 
-sound-after : (m : Meter) (s : Sample) (a : Stepped) → Answers m s a → Sound m → Sound (a .meter)
-sound-after m s a (accepts h) g =
+pub within-after : (m : Meter) (s : Sample) (a : Stepped) → Answers m s a → WithinLimits m → WithinLimits (a .meter)
+within-after m s a (accepts h) g =
     let limits = accepted-limits m s (h .limit) in
     let counts = accepted-state m (h .state) .counts in
     record { card = g .card; register = limits .register; volume = limits .volume; counts = omega arith }
-sound-after m s a (refuses-sample n e f) g =
+within-after m s a (refuses-sample n e f) g =
     let counts = room m e in
     record { card = g .card; register = g .register; volume = g .volume; counts = omega arith }
-sound-after m s a (refuses-standing n e) g = g
+within-after m s a (refuses-before n e) g = g
 
-answered : (m : Meter) (s : Sample) (a : Stepped) → a ≡ stepOf m s → Answers m s a
-answered m s a p = subst (λ (x : Stepped). Answers m s x) (sym p) (answers m s)
-
-pub sound-along : {m z : Meter} {ks : List Mark} → Sound m → Calls m ks z → Sound z
-sound-along g none = g
-sound-along g (step {m = m} s a p rest) = sound-along (sound-after m s a (answered m s a p) g) rest
+pub within-along : {m z : Meter} {ks : List Mark} → WithinLimits m → Calls m ks z → WithinLimits z
+within-along g none = g
+within-along g (step {m = m} s a p rest) = within-along (within-after m s a (answered m s a p) g) rest
 
 -- register and volume never pass their limits from a fresh meter
-pub sound : (c : Card) (m : Meter) → freshOf c ≡ FreshMeter.Made m → (ks : List Mark) (z : Meter) → Calls m ks z → Sound z
-sound c m e ks z calls =
+pub within-limits : (c : Card) (m : Meter) → freshOf c ≡ FreshMeter.Made m → (ks : List Mark) (z : Meter) → Calls m ks z → WithinLimits z
+within-limits c m e ks z calls =
     let f = fresh-zeros c m e in
-    sound-along (subst Sound (f .1) (record { card = f .0; register = omega arith; volume = omega arith; counts = omega arith })) calls
+    within-along (subst WithinLimits (f .1) (record { card = f .0; register = omega arith; volume = omega arith; counts = omega arith })) calls
 
 -- of the rows of card and state only 21 can refuse such a meter
-by-state : (m : Meter) → Sound m → firstOf (stateRows m) ≡ cond (eqb (m .accepted + m .refused) largestCount) (Refused 21) Accepted
+by-state : (m : Meter) → WithinLimits m → firstOf (stateRows m) ≡ cond (eqb (m .accepted + m .refused) largestCount) (Refused 21) Accepted
 unfolding stateRows firstOf
 by-state m g =
     simp
     (le-ltb largestRegister (m .register) (g .register), le-ltb largestVolume (m .volume) (g .volume), le-ltb largestCount (m .accepted + m .refused) (g .counts))
 
-is-21 : (b : Bool) (n : ℕ) → cond b (Refused 21) Accepted ≡ Refused n → n ≡ 21
-is-21 true n e = cc
+is-21 : (b : Bool) (n : ℕ) → cond b (Refused 21) Accepted ≡ Refused n → (n ≡ 21) × (b ≡ true)
+is-21 true n e = (cc, refl)
 is-21 false n e = let z : _≡_ {A = ℕ} 0 1 = cc in absurd (omega arith)
 
-pub only-21 : (m : Meter) (n : ℕ) → Sound m → firstOf (standingRows m) ≡ Refused n → n ≡ 21
-only-21 m n g e =
+-- and then the counts together are at their limit
+pub full : (m : Meter) (n : ℕ) → WithinLimits m → firstOf (cardAndStateRows m) ≡ Refused n → (n ≡ 21) × (eqb (m .accepted + m .refused) largestCount ≡ true)
+full m n g e =
     is-21 (eqb (m .accepted + m .refused) largestCount) n
     (sym (by-state m g)
     ∙ sym (ap (λ (o : Outcome). orElse o (firstOf (stateRows m))) (g .card))
     ∙ sym (parts (cardRows (m .card)) (stateRows m))
     ∙ e)
 
--- and the rows of the sample have larger numbers
-sample-number : (m : Meter) (s : Sample) (n : ℕ) → firstOf (sampleRows m s) ≡ Refused n → 21 < n
-unfolding countRows readingRows rangeRows limitRows endNumber
-sample-number m s n e = of-some-row (λ (k : ℕ). 21 < k) (sampleRows m s) n (omega arith) e
+pub only-21 : (m : Meter) (n : ℕ) → WithinLimits m → firstOf (cardAndStateRows m) ≡ Refused n → n ≡ 21
+only-21 m n g e = full m n g e .0
 
-larger : (n : ℕ) → 21 < n → n ≡ 21 → ⊥
+-- and the rows of the sample have larger numbers
+pub sample-number : (m : Meter) (s : Sample) (n : ℕ) → firstOf (sampleRows m s) ≡ Refused n → 30 ≤ n
+unfolding countRows readingRows rangeRows limitRows endNumber
+sample-number m s n e = of-some-row (λ (k : ℕ). 30 ≤ k) (sampleRows m s) n (omega arith) e
+
+pub larger : (n : ℕ) → 30 ≤ n → n ≡ 21 → ⊥
 larger n h e = omega arith
+
+-- So after any calls from a fresh meter the step refuses with 21 or with a number of the sample's rows.
+by-answer : (m : Meter) (s : Sample) (a : Stepped) (n : ℕ) → Answers m s a → WithinLimits m → a .outcome ≡ Refused n → (n ≡ 21) ⊎ (30 ≤ n)
+by-answer m s a n (accepts h) g e = let z : _≡_ {A = ℕ} 0 1 = cc in absurd (omega arith)
+by-answer m s a n (refuses-sample k f h) g e =
+    let same : k ≡ n = cc in
+    inr (subst (λ (x : ℕ). 30 ≤ x) same (sample-number m s k h))
+by-answer m s a n (refuses-before k f) g e =
+    let same : k ≡ n = cc in
+    inl (sym same ∙ only-21 m k g f)
+
+pub no-other-refusal : (c : Card) (m : Meter) → freshOf c ≡ FreshMeter.Made m → (ks : List Mark) (z : Meter) → Calls m ks z →
+    (s : Sample) (n : ℕ) → stepOf z s .outcome ≡ Refused n → (n ≡ 21) ⊎ (30 ≤ n)
+no-other-refusal c m e ks z calls s n f = by-answer z s (stepOf z s) n (answered z s (stepOf z s) refl) (within-limits c m e ks z calls) f
 
 -- how many of the calls were not refused by 21
 abbrev pub countsOf : Outcome → ℕ
@@ -97,20 +112,20 @@ abbrev pub countedOf : {m z : Meter} {ks : List Mark} → Calls m ks z → ℕ
 countedOf none = 0
 countedOf (step s a p rest) = countsOf (a .outcome) + countedOf rest
 
-one-more : (m : Meter) (s : Sample) (a : Stepped) → Answers m s a → Sound m →
+pub one-more : (m : Meter) (s : Sample) (a : Stepped) → Answers m s a → WithinLimits m →
     a .meter .accepted + a .meter .refused ≡ m .accepted + m .refused + countsOf (a .outcome)
 one-more m s a (accepts h) g = omega arith
 one-more m s a (refuses-sample n e f) g = simp (ne-eqb n 21 (larger n (sample-number m s n f))) (omega arith)
-one-more m s a (refuses-standing n e) g = simp (eq-eqb n 21 (only-21 m n g e)) (omega arith)
+one-more m s a (refuses-before n e) g = simp (eq-eqb n 21 (only-21 m n g e)) (omega arith)
 
-counted-along : {m z : Meter} {ks : List Mark} → Sound m → (calls : Calls m ks z) → z .accepted + z .refused ≡ m .accepted + m .refused + countedOf calls
+counted-along : {m z : Meter} {ks : List Mark} → WithinLimits m → (calls : Calls m ks z) → z .accepted + z .refused ≡ m .accepted + m .refused + countedOf calls
 counted-along g none = omega arith
 counted-along g (step {m = m} s a p rest) =
     let h = answered m s a p in
-    omega (arith, counted-along (sound-after m s a h g) rest, one-more m s a h g)
+    omega (arith, counted-along (within-after m s a h g) rest, one-more m s a h g)
 
 -- accepted plus refused is the number of calls not refused by 21
 pub counted : (c : Card) (m : Meter) → freshOf c ≡ FreshMeter.Made m → (ks : List Mark) (z : Meter) (calls : Calls m ks z) → z .accepted + z .refused ≡ countedOf calls
 counted c m e ks z calls =
     let f = fresh-zeros c m e in
-    omega (arith, counted-along (sound c m e [] m none) calls, ap (λ (x : Meter). x .accepted + x .refused) (f .1))
+    omega (arith, counted-along (within-limits c m e [] m none) calls, ap (λ (x : Meter). x .accepted + x .refused) (f .1))

@@ -1,6 +1,6 @@
 -- What the step's definition amounts to, for an accepted sample and for a refused one.
 -- Assumes nothing.
-use mathlib.Core.Path.{_≡_, refl, sym, _∙_, ap}
+use mathlib.Core.Path.{_≡_, refl, sym, ap, subst}
 use mathlib.Core.List.{List, [], _∷_, _++_}
 use mathlib.Core.Bool.{Bool, true, false}
 use mathlib.Core.Logic.{_↔_}
@@ -12,15 +12,11 @@ use Rattle.quantity.specs.declared.refusal.Outcome.the-variants.{Accepted, Refu
 use Rattle.quantity.proofs.Rows.{none-applies, no-refusal, none-of-parts, none-together}
 use Rattle.meter.specs.Card.{cardRows}
 use Rattle.meter.specs.State.{stateRows}
-use Rattle.meter.specs.Step.{countRows, readingRows, rangeRows, limitRows, sampleRows, accepting, refusing, bySample, byStanding, stepOf}
+use Rattle.meter.specs.Step.{countRows, readingRows, rangeRows, limitRows, sampleRows, accepting, refusing, bySample, byCardAndState, cardAndStateRows, stepOf}
 use Rattle.meter.specs.Calls.{isAccepted}
 use Rattle.meter.specs.declared.state.Meter.{Meter}
 use Rattle.meter.specs.declared.sample.Sample.{Sample}
 use Rattle.meter.specs.declared.stepping.Stepped.{Stepped}
-
--- the rows that are tried before the sample's
-abbrev pub standingRows : Meter → List Row
-standingRows m = cardRows (m .card) ++ stateRows m
 
 -- no row refuses the sample
 pub record NoRowRefuses (m : Meter) (s : Sample) : Type 0 where
@@ -31,7 +27,7 @@ pub record NoRowRefuses (m : Meter) (s : Sample) : Type 0 where
   pub range : NoneApplies (rangeRows (m .card) s)
   pub limit : NoneApplies (limitRows m s)
 
-no-row-refuses : (m : Meter) (s : Sample) → NoneApplies (standingRows m) → NoneApplies (sampleRows m s) → NoRowRefuses m s
+no-row-refuses : (m : Meter) (s : Sample) → NoneApplies (cardAndStateRows m) → NoneApplies (sampleRows m s) → NoRowRefuses m s
 no-row-refuses m s h g =
     let p = none-of-parts (cardRows (m .card)) (stateRows m) h in
     let q = none-of-parts (countRows (m .card) s) _ g in
@@ -43,32 +39,35 @@ no-row-refuses m s h g =
 -- the meter unchanged.
 pub data Answers (m : Meter) (s : Sample) : Stepped → Type 0 where
   accepts : NoRowRefuses m s → Answers m s (record { meter = accepting m s; outcome = Accepted })
-  refuses-sample : (n : ℕ) → firstOf (standingRows m) ≡ Accepted → firstOf (sampleRows m s) ≡ Refused n → Answers m s (record { meter = refusing m; outcome = Refused n })
-  refuses-standing : (n : ℕ) → firstOf (standingRows m) ≡ Refused n → Answers m s (record { meter = m; outcome = Refused n })
+  refuses-sample : (n : ℕ) → firstOf (cardAndStateRows m) ≡ Accepted → firstOf (sampleRows m s) ≡ Refused n → Answers m s (record { meter = refusing m; outcome = Refused n })
+  refuses-before : (n : ℕ) → firstOf (cardAndStateRows m) ≡ Refused n → Answers m s (record { meter = m; outcome = Refused n })
 
-by-sample : (m : Meter) (s : Sample) (o : Outcome) → firstOf (standingRows m) ≡ Accepted → firstOf (sampleRows m s) ≡ o → Answers m s (bySample m s o)
-by-sample m s Accepted e f = accepts (no-row-refuses m s (none-applies (standingRows m) e) (none-applies (sampleRows m s) f))
+by-sample : (m : Meter) (s : Sample) (o : Outcome) → firstOf (cardAndStateRows m) ≡ Accepted → firstOf (sampleRows m s) ≡ o → Answers m s (bySample m s o)
+by-sample m s Accepted e f = accepts (no-row-refuses m s (none-applies (cardAndStateRows m) e) (none-applies (sampleRows m s) f))
 by-sample m s (Refused n) e f = refuses-sample n e f
 
-by-standing : (m : Meter) (s : Sample) (o : Outcome) → firstOf (standingRows m) ≡ o → Answers m s (byStanding m s o)
-by-standing m s Accepted e = by-sample m s _ e refl
-by-standing m s (Refused n) e = refuses-standing n e
+by-card-and-state : (m : Meter) (s : Sample) (o : Outcome) → firstOf (cardAndStateRows m) ≡ o → Answers m s (byCardAndState m s o)
+by-card-and-state m s Accepted e = by-sample m s _ e refl
+by-card-and-state m s (Refused n) e = refuses-before n e
 
 pub answers : (m : Meter) (s : Sample) → Answers m s (stepOf m s)
 unfolding stepOf
-answers m s = by-standing m s _ refl
+answers m s = by-card-and-state m s _ refl
+
+pub answered : (m : Meter) (s : Sample) (a : Stepped) → a ≡ stepOf m s → Answers m s a
+answered m s a p = subst (λ (x : Stepped). Answers m s x) (sym p) (answers m s)
 
 -- a sample is accepted exactly when no row refuses it
 when-accepted : (m : Meter) (s : Sample) (a : Stepped) → Answers m s a → isAccepted (a .outcome) ≡ true → NoRowRefuses m s
 when-accepted m s a (accepts h) e = h
 when-accepted m s a (refuses-sample n f g) e = let z : _≡_ {A = ℕ} 0 1 = cc in absurd (omega arith)
-when-accepted m s a (refuses-standing n f) e = let z : _≡_ {A = ℕ} 0 1 = cc in absurd (omega arith)
+when-accepted m s a (refuses-before n f) e = let z : _≡_ {A = ℕ} 0 1 = cc in absurd (omega arith)
 
 pub not-refused : (m : Meter) (s : Sample) → NoRowRefuses m s → stepOf m s ≡ record { meter = accepting m s; outcome = Accepted }
 unfolding stepOf
 not-refused m s h =
     simp (
-      no-refusal (standingRows m) (none-together (cardRows (m .card)) (stateRows m) (h .card) (h .state)),
+      no-refusal (cardAndStateRows m) (none-together (cardRows (m .card)) (stateRows m) (h .card) (h .state)),
       no-refusal (sampleRows m s)
           (none-together (countRows (m .card) s) _ (h .count)
           (none-together (readingRows (m .card) s) _ (h .reading) (none-together (rangeRows (m .card) s) (limitRows m s) (h .range) (h .limit)))),

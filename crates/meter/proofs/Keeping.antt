@@ -9,7 +9,7 @@ use Rattle.water.specs.Heat.{ExactHeat, floored}
 use Rattle.meter.specs.Sum.{nothing, plus, Bounded}
 
 -- what is known of the exact heat of an accepted sample: with no volume it is 0, and with one it is at least 2000 mJ
-pub record Weighs (counts : Bool) (h : ExactHeat) : Type 0 where
+pub record HeatBounds (counts : Bool) (h : ExactHeat) : Type 0 where
   pub fraction : 0 < h .lower
   pub none : counts ≡ false → h .upper ≡ 0
   pub least : counts ≡ true → 2000 * h .lower ≤ h .upper
@@ -18,7 +18,7 @@ pub start : Bounded 0 0 nothing
 start = omega arith
 
 -- such a heat, floored into the register and added to the sum, keeps the bounds
-pub keep : (r n : ℕ) (a h : ExactHeat) (counts : Bool) → Weighs counts h → Bounded r n a → Bounded (r + floored h) (cond counts (n + 1) n) (plus a h)
+pub keep : (r n : ℕ) (a h : ExactHeat) (counts : Bool) → HeatBounds counts h → Bounded r n a → Bounded (r + floored h) (cond counts (n + 1) n) (plus a h)
 keep r n a h false w b =
     let z = a .lower in
     let d = h .lower in

@@ -27,24 +27,29 @@ use Rattle.meter.specs.declared.state.Meter.{Meter}
 use Rattle.meter.specs.declared.state.FreshMeter.{FreshMeter}
 use Rattle.meter.specs.declared.sample.Sample.{Sample}
 use Rattle.meter.specs.declared.stepping.Stepped.{Stepped}
-use Rattle.meter.proofs.Keeping.{Weighs, start, keep}
-use Rattle.meter.proofs.Answers.{NoRowRefuses, Answers, accepts, refuses-sample, refuses-standing, answers, not-refused, accepted-exactly}
-use Rattle.meter.proofs.Accepted.{accepted-card, accepted-pair, degrees-at-most}
+use Rattle.meter.proofs.Keeping.{HeatBounds, start, keep}
+use Rattle.meter.proofs.Answers.{NoRowRefuses, Answers, accepts, refuses-sample, refuses-before, answered, not-refused, accepted-exactly}
+use Rattle.meter.proofs.Accepted.{accepted-card, accepted-pair, temperature-at-most}
+
+-- the exact heat's lower number is above zero, also where a sample has no temperature
+pub lower-above-zero : (c : Card) (s : Sample) → 0 < heatOf c s .lower
+unfolding heatOf
+lower-above-zero c s = Exact.lower-above-zero water water-bounded _ _ _ _
 
 -- the exact heat of an accepted sample
-weighs : (m : Meter) (s : Sample) → NoRowRefuses m s → Weighs (hasVolume (m .card) s) (heatOf (m .card) s)
+heat-bounds : (m : Meter) (s : Sample) → NoRowRefuses m s → HeatBounds (hasVolume (m .card) s) (heatOf (m .card) s)
 unfolding heatOf
-weighs m s h =
+heat-bounds m s h =
     let c = m .card in
     let card = accepted-card c (h .card) in
     let pair = accepted-pair c s (h .range) in
     record {
-      fraction = Exact.lower-above-zero water water-bounded _ _ _ _;
+      fraction = lower-above-zero c s;
       none = λ e.
           let no-volume : volumeOf c s ≡ 0 = omega (arith, ltb-false 0 (volumeOf c s) e) in
           rw no-volume (Exact.nothing water _ _ _);
       least = λ e.
-          Exact.at-least-2000 water water-bounded _ _ _ _ (ltb-true _ _ e) (omega (arith, pair .apart, card .delta-min .0)) (degrees-at-most _ _);
+          Exact.at-least-2000 water water-bounded _ _ _ _ (ltb-true _ _ e) (omega (arith, pair .apart, card .delta-min .0)) (temperature-at-most _ _);
     }
 
 -- the bounds after one call more
@@ -52,25 +57,29 @@ abbrev After : Card → Sample → Stepped → ℕ → ExactHeat → Type 0
 After c s a n sum =
     let r = heatRegister c in
     let k = markOf s a in
-    Bounded (a .meter .register) (cond (r .own k && r .counts s) (n + 1) n) (cond (r .own k) (plus sum (r .heat s)) sum)
+    Bounded (a .meter .register) (cond (r .own k && r .hasVolume s) (n + 1) n) (cond (r .own k) (plus sum (r .heat s)) sum)
 
 one : (m : Meter) (s : Sample) (a : Stepped) (n : ℕ) (sum : ExactHeat) → Answers m s a → Bounded (m .register) n sum → After (m .card) s a n sum
-one m s a n sum (accepts h) b = keep _ _ _ _ _ (weighs m s h) b
+one m s a n sum (accepts h) b = keep _ _ _ _ _ (heat-bounds m s h) b
 one m s a n sum (refuses-sample x e f) b = b
-one m s a n sum (refuses-standing x e) b = b
+one m s a n sum (refuses-before x e) b = b
 
 -- the card never changes
 pub same-card : (m : Meter) (s : Sample) (a : Stepped) → Answers m s a → a .meter .card ≡ m .card
 same-card m s a (accepts h) = refl
 same-card m s a (refuses-sample x e f) = refl
-same-card m s a (refuses-standing x e) = refl
+same-card m s a (refuses-before x e) = refl
 
 from : {m z : Meter} {ks : List Mark} (c : Card) (n : ℕ) (sum : ExactHeat) → m .card ≡ c → Bounded (m .register) n sum → Calls m ks z →
     Bounded (z .register) (allowanceFrom (heatRegister c) n ks) (sumFrom (heatRegister c) sum ks)
 from c n sum e b none = b
 from c n sum e b (step {m = m} s a p rest) =
-    let h = subst (λ (x : Stepped). Answers m s x) (sym p) (answers m s) in
+    let h = answered m s a p in
     from c _ _ (same-card m s a h ∙ e) (subst (λ (x : Card). After x s a n sum) e (one m s a n sum h b)) rest
+
+pub card-along : {m z : Meter} {ks : List Mark} → Calls m ks z → z .card ≡ m .card
+card-along none = refl
+card-along (step {m = m} s a p rest) = card-along rest ∙ same-card m s a (answered m s a p)
 
 -- a fresh meter is that of an accepted card, with zeros
 by-card : (c : Card) (m : Meter) (o : Outcome) → freshAnswer o (zeros c) ≡ FreshMeter.Made m → (o ≡ Accepted) × (zeros c ≡ m)
@@ -81,6 +90,11 @@ pub fresh-zeros : (c : Card) (m : Meter) → freshOf c ≡ FreshMeter.Made m →
 unfolding freshOf
 fresh-zeros c m e = by-card c m _ e
 
+-- and every accepted card has one
+pub fresh-made : (c : Card) → firstOf (cardRows c) ≡ Accepted → freshOf c ≡ FreshMeter.Made (zeros c)
+unfolding freshOf
+fresh-made c e = ap (λ (o : Outcome). freshAnswer o (zeros c)) e
+
 pub register : RegisterBounds
 register c m e ks z calls =
     let m-is = fresh-zeros c m e .1 in
@@ -90,6 +104,6 @@ register c m e ks z calls =
 pub raises : (m : Meter) (s : Sample) → isAccepted (stepOf m s .outcome) ≡ true → hasVolume (m .card) s ≡ true → m .register < stepOf m s .meter .register
 raises m s e v =
     let h = accepted-exactly m s .0 e in
-    let w = weighs m s h in
+    let w = heat-bounds m s h in
     let at-least = le-div-iff-mul-le (w .fraction) .1 (w .least v) in
     subst (λ (a : Stepped). m .register < a .meter .register) (sym (not-refused m s h)) (omega (arith, at-least))

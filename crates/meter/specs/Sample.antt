@@ -27,19 +27,22 @@ supplyOf c s = temperatureOf (c .sensor) (s .«supply_reading»)
 abbrev pub returnOf : Card → Sample → Measured
 returnOf c s = temperatureOf (c .sensor) (s .«return_reading»)
 
--- A default, 0 °C, where a reading has no temperature, so that the definitions below speak of any sample. No accepted sample has it:
--- rows 32 and 33 refuse such a sample.
-abbrev pub degreesOf : Measured → Temperature
-degreesOf (Measured.At t) = t
-degreesOf (Measured.Outside e) = record { 0 = 0 }
-degreesOf Measured.NoSensor = record { 0 = 0 }
+-- A default where a reading has no temperature, so that the definitions below speak of any sample: 0 °C. No accepted sample has it: rows 32
+-- and 33 refuse such a sample (`has-temperatures` of proofs/Accepted.antt).
+abbrev pub missingTemperature : Temperature
+missingTemperature = record { 0 = 0 }
+
+abbrev pub temperatureOrMissing : Measured → Temperature
+temperatureOrMissing (Measured.At t) = t
+temperatureOrMissing (Measured.Outside e) = missingTemperature
+temperatureOrMissing Measured.NoSensor = missingTemperature
 
 -- ts and tr
 abbrev pub ts : Card → Sample → Temperature
-ts c s = degreesOf (supplyOf c s)
+ts c s = temperatureOrMissing (supplyOf c s)
 
 abbrev pub tr : Card → Sample → Temperature
-tr c s = degreesOf (returnOf c s)
+tr c s = temperatureOrMissing (returnOf c s)
 
 -- the exact heat: the step takes its floor, and the sum of demand 3 the fraction
 unfoldable pub heatOf : Card → Sample → ExactHeat

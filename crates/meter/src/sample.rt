@@ -15,7 +15,7 @@ ghost use Rattle.quantity.specs.Refusals.{firstOf, NoneApplies};
 ghost use Rattle.quantity.specs.declared.range.Position.the-variants.{Supply, Return};
 ghost use Rattle.platinum.specs.Refusal.{endRows};
 ghost use Rattle.meter.specs.Card.{cardRows};
-ghost use Rattle.meter.specs.Sample.{degreesOf};
+ghost use Rattle.meter.specs.Sample.{temperatureOrMissing};
 ghost use Rattle.meter.specs.Step.{outsideTheta, countRows, rangeRows};
 ghost use Rattle.meter.specs.Stages.{Paired};
 
@@ -48,19 +48,19 @@ fn is_too_much(pulses: u64, ml_per_pulse: u64) -> bool
 }
 
 // Rows 32 and 33.
-pub(crate) fn reading_refusal(supply: Measured, back: Measured) -> Outcome
-    ensures { λ r. ⌜ r ≡ firstOf (endRows Supply supply ++ endRows Return back) ⌝ }
+pub(crate) fn reading_refusal(supply: Measured, returned: Measured) -> Outcome
+    ensures { λ r. ⌜ r ≡ firstOf (endRows Supply supply ++ endRows Return returned) ⌝ }
 {
     let refusal = supply.end_refusal(Position::Supply);
     match refusal {
-        Outcome::Accepted => back.end_refusal(Position::Return),
+        Outcome::Accepted => returned.end_refusal(Position::Return),
         Outcome::Refused(number) => Outcome::Refused(number),
     }
 }
 
 // The temperature, or the default of one that is missing: such a sample is refused by then.
-pub(crate) fn degrees(measured: Measured) -> Temperature
-    ensures { λ r. ⌜ r ≡ degreesOf measured ⌝ }
+pub(crate) fn temperature_or_missing(measured: Measured) -> Temperature
+    ensures { λ r. ⌜ r ≡ temperatureOrMissing measured ⌝ }
 {
     match measured {
         Measured::At(t) => t,
@@ -69,28 +69,26 @@ pub(crate) fn degrees(measured: Measured) -> Temperature
     }
 }
 
-// Rows 34 to 39, of the supply and the return temperature.
+// Rows 34 to 39, of the volume and of the supply and the return temperature.
 pub(crate) fn range_refusal(
     card: Card,
     s: Sample,
+    volume: u64,
     supply: Temperature,
-    back: Temperature,
+    returned: Temperature,
 ) -> Outcome
-    requires { ⌜ Paired card s supply back ⌝ }
+    requires { ⌜ Paired card s volume supply returned ⌝ }
     ensures { λ r. ⌜ r ≡ firstOf (rangeRows card s) ⌝ }
 {
-    let difference = supply.distance(back);
+    let difference = supply.distance(returned);
     let least = Difference::of_kelvins(card.delta_min as u32);
     let largest = Difference::of_kelvins(card.delta_max as u32);
     let r = Outcome::Accepted.or_row(is_outside_theta(card, supply), 34);
-    let r = r.or_row(is_outside_theta(card, back), 35);
-    let r = r.or_row(supply.is_below(back), 36);
+    let r = r.or_row(is_outside_theta(card, returned), 35);
+    let r = r.or_row(supply.is_below(returned), 36);
     let r = r.or_row(difference.is_below(least), 37);
     let r = r.or_row(largest.is_below(difference), 38);
-    r.or_row(
-        card.qs * s.seconds < s.pulses * card.ml_per_pulse * 3600,
-        39,
-    )
+    r.or_row(card.qs * s.seconds < volume * 3600, 39)
 }
 
 fn is_outside_theta(card: Card, t: Temperature) -> bool

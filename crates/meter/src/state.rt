@@ -5,7 +5,7 @@ ghost use mathlib.Core.Path.{_≡_};
 ghost use mathlib.Core.List.{_++_};
 ghost use Prim.Native.Nat.{_+_, min};
 ghost use Rattle.quantity.specs.Refusals.{firstOf};
-ghost use Rattle.meter.specs.Card.{cardRows};
+ghost use Rattle.meter.specs.Step.{cardAndStateRows};
 ghost use mathlib.Core.Bool.{_||_};
 ghost use lib.Dec.{ltb};
 ghost use Rattle.meter.specs.State.{freshOf, stateRows, largestRegister, largestVolume, largestCount};
@@ -18,7 +18,7 @@ pub(crate) const LARGEST_VOLUME: u64 = 999999999999999;
 pub(crate) const LARGEST_COUNT: u64 = 1000000000000;
 
 // A meter: its card, the heat register in mJ, the volume in mL, and how many samples were accepted and refused. Any content can stand
-// here; the step refuses what no run of calls from a fresh meter leads to.
+// here; the step refuses a card or a state that a row from 10 to 21 meets.
 pub struct Meter {
     pub card: Card,
     pub register: u64,
@@ -58,8 +58,8 @@ pub(crate) fn meter_of(card: Card, register: u64, volume: u64, accepted: u64, re
 }
 
 // The rows of card and state, which come before those of a sample.
-pub(crate) fn standing_refusal(m: Meter) -> Outcome
-    ensures { λ r. ⌜ r ≡ firstOf (cardRows (m .card) ++ stateRows m) ⌝ }
+pub(crate) fn card_and_state_refusal(m: Meter) -> Outcome
+    ensures { λ r. ⌜ r ≡ firstOf (cardAndStateRows m) ⌝ }
 {
     let card = m.card;
     let refusal = card.refusal();

@@ -2,14 +2,14 @@
 // readings, its ranges, and what it would add.
 use crate::sample::Sample;
 use crate::sample::count_refusal;
-use crate::sample::degrees;
 use crate::sample::range_refusal;
 use crate::sample::reading_refusal;
+use crate::sample::temperature_or_missing;
 use crate::state::LARGEST_REGISTER;
 use crate::state::LARGEST_VOLUME;
 use crate::state::Meter;
+use crate::state::card_and_state_refusal;
 use crate::state::meter_of;
-use crate::state::standing_refusal;
 use quantity::Outcome;
 use quantity::Temperature;
 ghost use mathlib.Core.Path.{_≡_};
@@ -19,8 +19,8 @@ ghost use Prim.Native.Nat.{_+_, _≤_, _<_};
 ghost use lib.Dec.{ltb};
 ghost use Rattle.quantity.specs.Refusals.{firstOf};
 ghost use Rattle.meter.specs.State.{largestRegister, largestVolume, largestCount};
-ghost use Rattle.meter.specs.Step.{countRows, readingRows, rangeRows, limitRows, sampleRows, refusing, bySample, stepOf};
-ghost use Rattle.meter.specs.Stages.{Standing, Counted, Compared, Ranged, Heated, Fits, adding};
+ghost use Rattle.meter.specs.Step.{countRows, readingRows, rangeRows, limitRows, sampleRows, adding, refusing, bySample, stepOf};
+ghost use Rattle.meter.specs.Stages.{BeforeSample, Counted, Compared, Ranged, Heated, Fits};
 
 // The meter after a step, and no refusal or its number.
 pub struct Stepped {
@@ -33,7 +33,7 @@ pub struct Stepped {
 pub fn step(m: Meter, s: Sample) -> Stepped
     ensures { λ r. ⌜ r ≡ stepOf m s ⌝ }
 {
-    let refusal = standing_refusal(m);
+    let refusal = card_and_state_refusal(m);
     match refusal {
         Outcome::Accepted => take_sample(m, s),
         Outcome::Refused(number) => Stepped {
@@ -44,7 +44,7 @@ pub fn step(m: Meter, s: Sample) -> Stepped
 }
 
 fn take_sample(m: Meter, s: Sample) -> Stepped
-    requires { ⌜ Standing m ⌝ }
+    requires { ⌜ BeforeSample m ⌝ }
     ensures { λ r. ⌜ r ≡ bySample m s (firstOf (sampleRows m s)) ⌝ }
 {
     let card = m.card;
@@ -61,33 +61,43 @@ fn take_readings(m: Meter, s: Sample) -> Stepped
 {
     let sensor = m.card.sensor;
     let supply = platinum::temperature(sensor, s.supply_reading);
-    let back = platinum::temperature(sensor, s.return_reading);
-    let refusal = reading_refusal(supply, back);
+    let returned = platinum::temperature(sensor, s.return_reading);
+    let refusal = reading_refusal(supply, returned);
     match refusal {
-        Outcome::Accepted => take_pair(m, s, degrees(supply), degrees(back)),
+        Outcome::Accepted => take_pair(
+            m,
+            s,
+            temperature_or_missing(supply),
+            temperature_or_missing(returned),
+        ),
         Outcome::Refused(number) => refuse(m, number),
     }
 }
 
-fn take_pair(m: Meter, s: Sample, supply: Temperature, back: Temperature) -> Stepped
-    requires { ⌜ Compared m s supply back ⌝ }
+fn take_pair(m: Meter, s: Sample, supply: Temperature, returned: Temperature) -> Stepped
+    requires { ⌜ Compared m s supply returned ⌝ }
     ensures { λ r. ⌜ r ≡ bySample m s (firstOf (rangeRows (m .card) s ++ limitRows m s)) ⌝ }
 {
     let card = m.card;
-    let refusal = range_refusal(card, s, supply, back);
+    let volume = s.pulses * card.ml_per_pulse;
+    let refusal = range_refusal(card, s, volume, supply, returned);
     match refusal {
-        Outcome::Accepted => take_heat(m, s, supply, back),
+        Outcome::Accepted => take_heat(m, s, volume, supply, returned),
         Outcome::Refused(number) => refuse(m, number),
     }
 }
 
-fn take_heat(m: Meter, s: Sample, supply: Temperature, back: Temperature) -> Stepped
-    requires { ⌜ Ranged m s supply back ⌝ }
+fn take_heat(
+    m: Meter,
+    s: Sample,
+    volume: u64,
+    supply: Temperature,
+    returned: Temperature,
+) -> Stepped
+    requires { ⌜ Ranged m s volume supply returned ⌝ }
     ensures { λ r. ⌜ r ≡ bySample m s (firstOf (limitRows m s)) ⌝ }
 {
-    let card = m.card;
-    let volume = s.pulses * card.ml_per_pulse;
-    let answer = water::heat(volume, supply, back, card.place);
+    let answer = water::heat(volume, supply, returned, m.card.place);
     match answer {
         water::Heat::Millijoules(heat) => take_amounts(m, s, heat, volume),
         water::Heat::Refused(number) => refuse(m, number),
@@ -127,7 +137,7 @@ fn passes_limits(register: u64, heat: u64, volume: u64, added: u64) -> bool
 
 fn accept(m: Meter, heat: u64, volume: u64) -> Stepped
     requires { ⌜ Fits m heat volume ⌝ }
-    ensures { λ r. ⌜ r ≡ adding m heat volume ⌝ }
+    ensures { λ r. ⌜ r ≡ record { meter = adding m heat volume; outcome = Outcome.Accepted } ⌝ }
 {
     let card = m.card;
     Stepped {

@@ -1,4 +1,4 @@
--- W grows from 0 to 18000, and stays within 64 bits there.
+-- W grows from 0 to 18000.
 -- Assumes nothing.
 use mathlib.Core.Path.{_≡_, ap, subst}
 use mathlib.Core.Logic.{⊎-elim}

@@ -27,10 +27,11 @@ is-top share t b h g l =
     let e : b ≡ t = omega arith in
     ap (largest (reaches share)) e ∙ at-top (reaches share) t (le-leb (W t) share h)
 
--- n × w is at most x exactly where w is at most x / n, rounded down
+-- w is at most x / n, rounded down, where n × w is at most x
 pub divided : (n w x : ℕ) → 0 < n → n * w ≤ x → w ≤ x / n
 divided n w x p h = le-div-iff-mul-le p .1 (omega arith)
 
+-- and n × W(t) is at most x exactly where W(t) is at most that quotient
 pub by-division : (n x b : ℕ) → 0 < n → largest (reaches (x / n)) b ≡ largest (λ t. leb (n * W t) x) b
 by-division n x b p =
     ap (λ test. largest test b)

@@ -22,20 +22,22 @@ refusalOf p (At t) = Accepted
 refusalOf p (Outside e) = Refused (endNumber p e)
 refusalOf p NoSensor = Refused 12
 
--- the answer misses this end of the range
-abbrev pub misses : End → Measured → Bool
-misses e (At t) = false
-misses Low (Outside Low) = true
-misses Low (Outside High) = false
-misses High (Outside Low) = false
-misses High (Outside High) = true
-misses e NoSensor = false
+-- The answer has no temperature, for this end of the range. An answer without a sensor has none either; 12 comes first wherever the
+-- sensor is asked for, and otherwise it counts with the low end.
+abbrev pub hasNone : End → Measured → Bool
+hasNone e (At t) = false
+hasNone Low (Outside Low) = true
+hasNone Low (Outside High) = false
+hasNone High (Outside Low) = false
+hasNone High (Outside High) = true
+hasNone Low NoSensor = true
+hasNone High NoSensor = false
 
 -- "has no temperature", for each end of the range
 abbrev pub endRows : Position → Measured → List Row
 endRows p m =
-    row (endNumber p Low) (misses Low m)
-    ∷ row (endNumber p High) (misses High m)
+    row (endNumber p Low) (hasNone Low m)
+    ∷ row (endNumber p High) (hasNone High m)
     ∷ []
 
 -- "Temperature alone": 12; 32. proofs/Answer.antt shows that `refusalOf Alone` of the answer is the first of these

@@ -59,14 +59,14 @@ impl Measured {
         }
     }
 
-    // The rows of the two ends of the range alone, for a place where the sensor has been tested.
+    // The rows "has no temperature" alone, for a place where the sensor has been tested.
     pub fn end_refusal(self, position: Position) -> Outcome
         ensures { λ r. ⌜ r ≡ firstOf (endRows position self) ⌝ }
     {
         match self {
             Measured::At(_) => Outcome::Accepted,
             Measured::Outside(end) => Outcome::Refused(quantity::end_number(position, end)),
-            Measured::NoSensor => Outcome::Accepted,
+            Measured::NoSensor => Outcome::Refused(quantity::end_number(position, End::Low)),
         }
     }
 }

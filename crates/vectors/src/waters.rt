@@ -31,7 +31,7 @@ pub(crate) fn of_degree(line: &[u8]) {
     }
 }
 
-// `Q,ts,tr,place,unit`: the coefficient in a published unit, 0 for a refusal.
+// `Q,ts,tr,place,unit`: the coefficient in a published unit, or X and the refusal.
 pub(crate) fn of_published(line: &[u8]) {
     let answer = water::coefficient(
         Temperature(number(line, 1)),

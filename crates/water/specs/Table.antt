@@ -1,6 +1,6 @@
 -- The water table, document 01: "The table has one entry for every whole degree from 0 to 180: specific enthalpy h in
 -- mJ/kg and specific volume v in 10^-12 m³/kg. Each is the exact IF97 region 1 value at 1.6 MPa, rounded to nearest, halves
--- up." Only this file knows the pressure and the degrees.
+-- up." No other definition knows the pressure and the degrees.
 use Prim.Native.Nat.{ℕ, _^_}
 use mathlib.Core.Bool.{cond}
 use lib.Dec.{leb}

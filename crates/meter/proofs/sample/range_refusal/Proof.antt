@@ -1,10 +1,9 @@
--- `meter::sample::range_refusal` meets its contract: each row as its condition's function says it, of the sample's own temperatures, and the chain of rows as `firstOf` does.
+-- `meter::sample::range_refusal` meets its contract: each row as its condition's function says it, of the sample's own volume and
+-- temperatures, and the chain of rows as `firstOf` does.
 -- Assumes nothing.
 use borrow.Author.Needs.{needs}
-use Prim.Native.Nat.{_*_}
 use native.Mathlib.Omega.{arith}
 use Rattle.quantity.proofs.Rows.{accumulated}
-use Rattle.meter.specs.Sample.{volumeOf}
 use Rattle.meter.specs.Step.{rangeRows}
 use Rattle.meter.proofs.Accepted.{accepted-card, accepted-counts, product-fits}
 use Rattle.meter.proofs.sample.range_refusal.Statement.{statement}
@@ -61,39 +60,37 @@ mul-or-row c =
     record { fits = product-fits _ _ (omega (arith, accepted-card _ (p .card))) (accepted-counts _ _ (p .count) .seconds .1) }
 
 mul-or-row-2 : tie.Need-mul-or-row-2
-unfolding volumeOf
-mul-or-row-2 c = omega (arith, accepted-counts _ _ (c .before .before .before .before .before .before .before .before .before .before .before .before .before .before .before .before .before .before .before .pre .count))
-
-mul-or-row-3 : tie.Need-mul-or-row-3
-unfolding volumeOf
-mul-or-row-3 c = omega (arith, accepted-counts _ _ (c .before .before .before .before .before .before .before .before .before .before .before .before .before .before .before .before .before .before .before .pre .count))
+mul-or-row-2 c =
+    let p = c .before .before .before .before .before .before .before .before .before .before .before .before .before .before .before .before .before .pre in
+    omega (arith, p .volume-is, accepted-counts _ _ (p .count))
 
 or-row-requires-6 : tie.Need-or-row-requires-6
 or-row-requires-6 c κs = search needs
 
 returns : tie.Need-returns
-unfolding rangeRows volumeOf
+unfolding rangeRows
 returns c =
-    let p = c .before .before .before .before .before .before .before .before .before .before .before .before .before .before .before .before .before .before .before .before .pre in
+    let p = c .before .before .before .before .before .before .before .before .before .before .before .before .before .before .before .before .before .before .pre in
     simp (
       c .or-row6 .ensures,
-      c .before .before .before .before .before .or-row5 .ensures,
-      c .before .before .before .before .before .before .is-below3 .ensures,
-      c .before .before .before .before .before .before .before .or-row4 .ensures,
-      c .before .before .before .before .before .before .before .before .is-below2 .ensures,
-      c .before .before .before .before .before .before .before .before .before .or-row3 .ensures,
-      c .before .before .before .before .before .before .before .before .before .before .is-below .ensures,
-      c .before .before .before .before .before .before .before .before .before .before .before .or-row2 .ensures,
-      c .before .before .before .before .before .before .before .before .before .before .before .before .is-outside-theta2 .ensures,
-      c .before .before .before .before .before .before .before .before .before .before .before .before .before .or-row .ensures,
-      c .before .before .before .before .before .before .before .before .before .before .before .before .before .before .is-outside-theta .ensures,
-      c .before .before .before .before .before .before .before .before .before .before .before .before .before .before .before .of-kelvins2 .ensures,
-      c .before .before .before .before .before .before .before .before .before .before .before .before .before .before .before .before .before .of-kelvins .ensures,
-      c .before .before .before .before .before .before .before .before .before .before .before .before .before .before .before .before .before .before .before .distance .ensures,
+      c .before .before .before .or-row5 .ensures,
+      c .before .before .before .before .is-below3 .ensures,
+      c .before .before .before .before .before .or-row4 .ensures,
+      c .before .before .before .before .before .before .is-below2 .ensures,
+      c .before .before .before .before .before .before .before .or-row3 .ensures,
+      c .before .before .before .before .before .before .before .before .is-below .ensures,
+      c .before .before .before .before .before .before .before .before .before .or-row2 .ensures,
+      c .before .before .before .before .before .before .before .before .before .before .is-outside-theta2 .ensures,
+      c .before .before .before .before .before .before .before .before .before .before .before .or-row .ensures,
+      c .before .before .before .before .before .before .before .before .before .before .before .before .is-outside-theta .ensures,
+      c .before .before .before .before .before .before .before .before .before .before .before .before .before .of-kelvins2 .ensures,
+      c .before .before .before .before .before .before .before .before .before .before .before .before .before .before .before .of-kelvins .ensures,
+      c .before .before .before .before .before .before .before .before .before .before .before .before .before .before .before .before .before .distance .ensures,
+      p .volume-is,
       p .supply-is,
-      p .back-is,
+      p .returned-is,
     )
-    (accumulated (rangeRows (c .before .before .before .before .before .before .before .before .before .before .before .before .before .before .before .before .before .before .before .before .args .card) (c .before .before .before .before .before .before .before .before .before .before .before .before .before .before .before .before .before .before .before .before .args .s)))
+    (accumulated (rangeRows (c .before .before .before .before .before .before .before .before .before .before .before .before .before .before .before .before .before .before .args .card) (c .before .before .before .before .before .before .before .before .before .before .before .before .before .before .before .before .before .before .args .s)))
 
 pub range-refusal-spec : {M : Type 1} → statement M
 range-refusal-spec =
@@ -116,6 +113,5 @@ range-refusal-spec =
     or-row-requires-5
     mul-or-row
     mul-or-row-2
-    mul-or-row-3
     or-row-requires-6
     returns)

@@ -23,12 +23,12 @@ enum-known-refusal c = search needs
 returns : tie.Need-returns
 returns c =
     let a = c .before .before .before .before .args in
-    simp (parts (endRows Supply (a .supply)) (endRows Return (a .back)), sym (c .before .before .before .end-refusal .ensures) ∙ c .before .enum-told .given .1, c .end-refusal2 .ensures)
+    simp (parts (endRows Supply (a .supply)) (endRows Return (a .returned)), sym (c .before .before .before .end-refusal .ensures) ∙ c .before .enum-told .given .1, c .end-refusal2 .ensures)
 
 returns-2 : tie.Need-returns-2
 returns-2 c =
     let a = c .before .before .before .before .args in
-    simp (parts (endRows Supply (a .supply)) (endRows Return (a .back)), sym (c .before .before .before .end-refusal .ensures) ∙ c .before .refusal .given .1)
+    simp (parts (endRows Supply (a .supply)) (endRows Return (a .returned)), sym (c .before .before .before .end-refusal .ensures) ∙ c .before .refusal .given .1)
 
 pub reading-refusal-spec : {M : Type 1} → statement M
 reading-refusal-spec =

@@ -9,19 +9,19 @@ use Rattle.meter.proofs.stepping.limit_refusal.Statement.{statement}
 use Rattle.meter.proofs.stepping.limit_refusal.Tie as tie
 
 mul-or-row : tie.Need-mul-or-row
-mul-or-row c = omega (arith, accepted-card _ (c .before .pre .counted .standing .card))
+mul-or-row c = omega (arith, accepted-card _ (c .before .pre .counted .before-sample .card))
 
 mul-or-row-2 : tie.Need-mul-or-row-2
 mul-or-row-2 c =
     let p = c .before .before .pre .counted in
-    record { fits = product-fits _ _ (omega (arith, accepted-card _ (p .standing .card))) (accepted-counts _ _ (p .count) .seconds .1) }
+    record { fits = product-fits _ _ (omega (arith, accepted-card _ (p .before-sample .card))) (accepted-counts _ _ (p .count) .seconds .1) }
 
 or-row-requires : tie.Need-or-row-requires
 or-row-requires c κs = search needs
 
 passes-limits-requires : tie.Need-passes-limits-requires
 passes-limits-requires c κs =
-    let h = accepted-state _ (c .before .before .before .pre .counted .standing .state) in
+    let h = accepted-state _ (c .before .before .before .pre .counted .before-sample .state) in
     (h .register, h .volume)
 
 or-row-requires-2 : tie.Need-or-row-requires-2

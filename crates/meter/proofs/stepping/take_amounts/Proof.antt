@@ -20,13 +20,13 @@ accept-requires c κs =
     let d = c .before .before in
     let p = d .before .pre in
     let h = accepted-limits _ _ (passed (limitRows (d .before .args .m) (d .before .args .s)) _ (d .limit-refusal .ensures) (c .enum-told .given .1)) in
-    rw (p .heat-is, p .volume-is) (record { register = h .register; volume-room = h .volume; counts = countable _ (p .counted .standing .state) })
+    rw (p .heat-is, p .volume-is) (record { register = h .register; volume-room = h .volume; counts = countable _ (p .counted .before-sample .state) })
 
 enum-known-refusal : tie.Need-enum-known-refusal
 enum-known-refusal c = search needs
 
 refuse-requires : tie.Need-refuse-requires
-refuse-requires c κs = countable _ (c .before .before .before .before .pre .counted .standing .state)
+refuse-requires c κs = countable _ (c .before .before .before .before .pre .counted .before-sample .state)
 
 returns : tie.Need-returns
 returns c =

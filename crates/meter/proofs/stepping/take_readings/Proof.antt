@@ -4,7 +4,7 @@ use borrow.Author.Needs.{needs}
 use mathlib.Core.Path.{_≡_, _∙_, ap}
 use mathlib.Core.List.{_++_}
 use Rattle.quantity.specs.Refusals.{firstOf}
-use Rattle.meter.specs.Sample.{degreesOf}
+use Rattle.meter.specs.Sample.{temperatureOrMissing}
 use Rattle.meter.specs.Step.{readingRows, rangeRows, limitRows}
 use Rattle.meter.proofs.Stages.{goes-on, stops, countable}
 use Rattle.meter.proofs.stepping.take_readings.Statement.{statement}
@@ -28,31 +28,26 @@ reading-refusal-requires c κs = search needs
 enum-told : tie.Need-enum-told
 enum-told c = search needs
 
-degrees-requires : tie.Need-degrees-requires
-degrees-requires c κs = search needs
+temperature-or-missing-requires : tie.Need-temperature-or-missing-requires
+temperature-or-missing-requires c κs = search needs
 
-degrees-requires-2 : tie.Need-degrees-requires-2
-degrees-requires-2 c κs = search needs
+temperature-or-missing-requires-2 : tie.Need-temperature-or-missing-requires-2
+temperature-or-missing-requires-2 c κs = search needs
 
 take-pair-requires : tie.Need-take-pair-requires
 take-pair-requires c κs =
     let d = c .before .before .before .before .before in
-    let p = d .before .before .pre in
     record {
-      state = p .standing .state;
-      pair = record {
-        card = p .standing .card;
-        count = p .count;
-        supply-is = c .before .degrees .ensures ∙ ap degreesOf (d .before .temperature .ensures);
-        back-is = c .degrees2 .ensures ∙ ap degreesOf (d .temperature2 .ensures);
-      };
+      counted = d .before .before .pre;
+      supply-is = c .before .temperature-or-missing .ensures ∙ ap temperatureOrMissing (d .before .temperature .ensures);
+      returned-is = c .temperature-or-missing2 .ensures ∙ ap temperatureOrMissing (d .temperature2 .ensures);
     }
 
 enum-known-refusal : tie.Need-enum-known-refusal
 enum-known-refusal c = search needs
 
 refuse-requires : tie.Need-refuse-requires
-refuse-requires c κs = countable _ (c .before .before .before .before .before .before .pre .standing .state)
+refuse-requires c κs = countable _ (c .before .before .before .before .before .before .pre .before-sample .state)
 
 returns : tie.Need-returns
 returns c =
@@ -74,8 +69,8 @@ take-readings-spec =
     temperature-requires-2
     reading-refusal-requires
     enum-told
-    degrees-requires
-    degrees-requires-2
+    temperature-or-missing-requires
+    temperature-or-missing-requires-2
     take-pair-requires
     enum-known-refusal
     refuse-requires

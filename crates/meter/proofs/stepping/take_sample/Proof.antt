@@ -18,7 +18,7 @@ take-readings-requires : tie.Need-take-readings-requires
 take-readings-requires c κs =
     let d = c .before .before in
     let p = d .before .before .pre in
-    record { standing = p; count = passed (countRows _ _) _ (d .count-refusal .ensures) (c .enum-told .given .1) }
+    record { before-sample = p; count = passed (countRows _ _) _ (d .count-refusal .ensures) (c .enum-told .given .1) }
 
 enum-known-refusal : tie.Need-enum-known-refusal
 enum-known-refusal c = search needs

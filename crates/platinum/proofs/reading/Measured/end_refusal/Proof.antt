@@ -19,6 +19,9 @@ end-number-requires c κs = search needs
 enum-told-2 : tie.Need-enum-told-2
 enum-told-2 c = search needs
 
+end-number-requires-2 : tie.Need-end-number-requires-2
+end-number-requires-2 c κs = search needs
+
 returns : tie.Need-returns
 unfolding firstOf
 returns c = simp (c .enum-told .given .1)
@@ -28,7 +31,7 @@ returns-2 c = simp (c .before .before .self .given .1, c .end-number .ensures) (
 
 returns-3 : tie.Need-returns-3
 unfolding firstOf
-returns-3 c = simp (c .enum-told2 .given .1)
+returns-3 c = simp (c .before .enum-told2 .given .1, c .end-number2 .ensures)
 
 pub end-refusal-spec : {M : Type 1} → statement M
 end-refusal-spec =
@@ -38,6 +41,7 @@ end-refusal-spec =
     enum-known-self
     end-number-requires
     enum-told-2
+    end-number-requires-2
     returns
     returns-2
     returns-3)
