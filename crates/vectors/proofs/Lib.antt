@@ -1,0 +1,2 @@
+-- Facts about the definitions of several crates.
+pub mod Edges
