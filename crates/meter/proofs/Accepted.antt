@@ -16,6 +16,7 @@ use Rattle.quantity.specs.declared.range.Position.{Position}
 use Rattle.quantity.specs.declared.range.Position.the-variants.{Supply, Return}
 use Rattle.quantity.specs.declared.range.End.the-variants.{Low, High}
 use Rattle.quantity.proofs.Rows.{none-of-parts}
+use Rattle.platinum.specs.Sensor.{sensorOf, isUnknown}
 use Rattle.platinum.specs.Refusal.{endRows}
 use Rattle.platinum.specs.declared.reading.Measured.{Measured}
 use Rattle.platinum.specs.declared.reading.Measured.the-variants.{At, Outside, NoSensor}
@@ -30,13 +31,27 @@ use Rattle.meter.specs.declared.card.Card.{Card}
 use Rattle.meter.specs.declared.state.Meter.{Meter}
 use Rattle.meter.specs.declared.sample.Sample.{Sample}
 
+-- a sensor field that names a kind
+sensor-most : (n : ℕ) → isUnknown (sensorOf n) ≡ false → n ≤ 1000
+unfolding sensorOf
+sensor-most n h = by (eqb n 100) (eqb n 500) (eqb n 1000) refl refl refl h
+  where
+    by : (a b c : Bool) → eqb n 100 ≡ a → eqb n 500 ≡ b → eqb n 1000 ≡ c → isUnknown (sensorOf n) ≡ false → n ≤ 1000
+    by true b c e f g k = let z : n ≡ 100 = eqb-true n 100 e in omega (arith, z)
+    by false true c e f g k = let z : n ≡ 500 = eqb-true n 500 f in omega (arith, z)
+    by false false true e f g k = let z : n ≡ 1000 = eqb-true n 1000 g in omega (arith, z)
+    by false false false e f g k = absurd (let z : true ≡ false = simp (e, f, g) at k in let y : _≡_ {A = ℕ} 0 1 = cc in omega arith)
+
 pub record AcceptedCard (c : Card) : Type 0 where
+  pub serial : c .serial ≤ 99999999
+  pub sensor : c .sensor ≤ 1000
   pub place : outside (c .place) 1 2 ≡ false
   pub ml : (1 ≤ c .«ml_per_pulse») × (c .«ml_per_pulse» ≤ 100000)
   pub theta : (c .«theta_min» < c .«theta_max») × (c .«theta_max» ≤ 180)
   pub delta-min : (1 ≤ c .«delta_min») × (c .«delta_min» ≤ 3)
   pub delta-max : (10 * c .«delta_min» ≤ c .«delta_max») × (c .«delta_max» ≤ 180)
   pub flow : c .qs ≤ 10 ^ 9
+  pub flows : (c .qi ≤ c .qp) × (c .qp ≤ c .qs)
   pub power : (1 ≤ c .ps) × (c .ps ≤ 10 ^ 9)
 
 pub accepted-card : (c : Card) → NoneApplies (cardRows c) → AcceptedCard c
@@ -51,13 +66,18 @@ accepted-card c h =
     let theta = neither _ _ (h14 .0) in
     let delta = neither _ _ (h16 .0) in
     let flow = both (leb 1 (c .qi) && leb (c .qi) (c .qp) && leb (c .qp) (c .qs)) (leb (c .qs) (10 ^ 9)) (not-false _ (h17 .0)) in
+    let middle = both (leb 1 (c .qi) && leb (c .qi) (c .qp)) (leb (c .qp) (c .qs)) (flow .0) in
+    let lower = both (leb 1 (c .qi)) (leb (c .qi) (c .qp)) (middle .0) in
     record {
+      serial = inside _ _ _ (h .0) .1;
+      sensor = sensor-most (c .sensor) (h11 .1 .0);
       place = h11 .0;
       ml = inside _ _ _ (h13 .0);
       theta = (leb-false _ _ (theta .0), ltb-false _ _ (theta .1));
       delta-min = inside _ _ _ (h15 .0);
       delta-max = (ltb-false _ _ (delta .0), ltb-false _ _ (delta .1));
       flow = leb-true _ _ (flow .1);
+      flows = (leb-true _ _ (lower .1), leb-true _ _ (middle .1));
       power = inside _ _ _ (h17 .1 .0);
     }
 

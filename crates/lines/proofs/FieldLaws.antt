@@ -1,0 +1,131 @@
+-- A comma and the number after it: what is written is read back, and what is read is what is written.
+-- Assumes nothing.
+use mathlib.Core.Path.{_≡_, refl, sym, ap, _∙_, subst}
+use mathlib.Core.Bool.{Bool, true, false, cond}
+use mathlib.Core.List.{List, [], _∷_, _++_, append-nil}
+use Prim.Native.Nat.{ℕ, suc, _+_, _^_, _≤_, _<_}
+use native.Mathlib.Omega.{arith}
+use native.Mathlib.Numerals.{add-one}
+use lib.Dec.{eqb}
+use lib.ListN.{length, getD, drop, length-append}
+use lib.Seq.{drop-append-seam, drop-drop}
+use borrow.Author.Tests.{eq-eqb, ne-eqb, eqb-true}
+use Rattle.quantity.proofs.Conditions.{both}
+use Rattle.lines.specs.Number.{decimal, isDigit, areDigits, valueOf, isNumber}
+use Rattle.lines.specs.Parts.{run, numberAt, oneMore, fieldAt}
+use Rattle.lines.specs.declared.number.Field.{Field}
+use Rattle.lines.specs.declared.number.Field.the-variants.{Number, Missing}
+use Rattle.lines.proofs.Decimals.{decimal-digits, decimal-number, value-decimal, number-decimal, number-small}
+use Rattle.lines.proofs.Runs.{run-within}
+
+-- ---- by the tests
+
+pub field-empty : (bs : List ℕ) → length bs ≡ 0 → fieldAt bs ≡ Missing
+unfolding fieldAt
+field-empty [] h = refl
+field-empty (b ∷ bs) h = absurd (omega arith)
+
+pub field-other : (bs : List ℕ) → (getD bs 0 0 ≡ 44 → ⊥) → fieldAt bs ≡ Missing
+unfolding fieldAt
+field-other [] h = refl
+field-other (b ∷ bs) h = simp (ne-eqb b 44 h)
+
+pub field-comma : (bs : List ℕ) → getD bs 0 0 ≡ 44 → fieldAt bs ≡ oneMore (numberAt (drop 1 bs))
+unfolding fieldAt
+field-comma [] h = absurd (let z : _≡_ {A = ℕ} 0 44 = h in omega arith)
+field-comma (b ∷ bs) h = simp (eq-eqb b 44 h)
+
+-- ---- a number
+
+-- digits go on with the digits after them
+run-after : (d rest : List ℕ) → areDigits d ≡ true → run (d ++ rest) ≡ d ++ run rest
+unfolding areDigits run
+run-after [] rest p = refl
+run-after (b ∷ d) rest p =
+    let h = both (isDigit b) (areDigits d) p in
+    simp (h .0, run-after d rest (h .1))
+
+run-front : (bs : List ℕ) → bs ≡ run bs ++ drop (length (run bs)) bs
+unfolding run
+run-front [] = refl
+run-front (b ∷ bs) =
+    elim (isDigit b) as (λ t. isDigit b ≡ t → b ∷ bs ≡ run (b ∷ bs) ++ drop (length (run (b ∷ bs))) (b ∷ bs)) [
+      | true ↦ λ e. simp e (ap (λ (r : List ℕ). b ∷ r) (run-front bs))
+      | false ↦ λ e. simp e
+    ] refl
+
+number-back : (v : ℕ) (rest : List ℕ) → v < 10 ^ 18 → run rest ≡ [] → numberAt (decimal v ++ rest) ≡ Number v (length (decimal v))
+unfolding numberAt
+number-back v rest h e =
+    let r : run (decimal v ++ rest) ≡ decimal v =
+    run-after (decimal v) rest (decimal-digits v) ∙ ap (λ (l : List ℕ). decimal v ++ l) e ∙ append-nil (decimal v) in
+    simp (r, decimal-number v h, value-decimal v)
+
+-- what `numberAt` answers
+pub record IsNumber (bs : List ℕ) (v n : ℕ) : Type 0 where
+  pub small : v < 10 ^ 18
+  pub counted : n ≡ length (decimal v)
+  pub front : bs ≡ decimal v ++ drop n bs
+
+number-forth : (bs : List ℕ) (v n : ℕ) → numberAt bs ≡ Number v n → IsNumber bs v n
+unfolding numberAt
+number-forth bs v n h =
+    elim (isNumber (run bs)) as (λ t. isNumber (run bs) ≡ t → IsNumber bs v n) [
+      | true ↦ λ t.
+          let g : Number (valueOf (run bs)) (length (run bs)) ≡ Number v n = simp t at h in
+          let a : valueOf (run bs) ≡ v = cc in
+          let l : length (run bs) ≡ n = cc in
+          let d : decimal v ≡ run bs = ap decimal (sym a) ∙ number-decimal (run bs) t in
+          record {
+            small = rw a at (number-small (run bs) t);
+            counted = sym l ∙ ap length (sym d);
+            front = rw (d, ← l) (run-front bs);
+          }
+      | false ↦ λ t.
+          let g : Missing ≡ Number v n = simp t at h in
+          absurd (let z : _≡_ {A = ℕ} 0 1 = cc in omega arith)
+    ] refl
+
+-- ---- a field
+
+-- LAW: what is written is read back
+pub field-back : (v : ℕ) (rest : List ℕ) → v < 10 ^ 18 → run rest ≡ [] → fieldAt (44 ∷ (decimal v ++ rest)) ≡ Number v (length (decimal v) + 1)
+unfolding oneMore
+field-back v rest h e = field-comma (44 ∷ (decimal v ++ rest)) refl ∙ rw (number-back v rest h e)
+
+-- LAW: what is read is what is written
+pub record IsField (bs : List ℕ) (v n : ℕ) : Type 0 where
+  pub small : v < 10 ^ 18
+  pub counted : n ≡ length (decimal v) + 1
+  pub front : bs ≡ 44 ∷ (decimal v ++ drop n bs)
+
+pub field-forth : (bs : List ℕ) (v n : ℕ) → fieldAt bs ≡ Number v n → IsField bs v n
+unfolding fieldAt oneMore
+field-forth [] v n h = absurd (let z : _≡_ {A = ℕ} 0 1 = cc h in omega arith)
+field-forth (b ∷ bs) v n h =
+    elim (eqb b 44) as (λ t. eqb b 44 ≡ t → IsField (b ∷ bs) v n) [
+      | true ↦ λ t. after t (numberAt bs) refl (simp t at h)
+      | false ↦ λ t.
+          let g : Missing ≡ Number v n = simp t at h in
+          absurd (let z : _≡_ {A = ℕ} 0 1 = cc in omega arith)
+    ] refl
+  where
+    after : eqb b 44 ≡ true → (f : Field) → numberAt bs ≡ f → oneMore f ≡ Number v n → IsField (b ∷ bs) v n
+    after t (Number w m) e g =
+        let a : w ≡ v = cc g in
+        let l : m + 1 ≡ n = cc g in
+        let k = number-forth bs w m e in
+        let f : bs ≡ decimal w ++ drop m bs = k .front in
+        let d : drop n (b ∷ bs) ≡ drop m bs = rw (← l, add-one) in
+        record {
+          small = rw a at (k .small);
+          counted = sym l ∙ ap (λ (i : ℕ). i + 1) (k .counted) ∙ rw a;
+          front = rw (d, ← a) (rw (eqb-true b 44 t) (ap (λ (r : List ℕ). 44 ∷ r) f));
+        }
+    after t Missing e g = absurd (let z : _≡_ {A = ℕ} 0 1 = cc g in omega arith)
+
+-- a number's digits are within the text
+pub number-within : (bs : List ℕ) (v n : ℕ) → numberAt bs ≡ Number v n → n ≤ length bs
+number-within bs v n h =
+    let k = number-forth bs v n h in
+    omega (arith, k .counted, ap length (k .front) ∙ length-append (decimal v) (drop n bs))

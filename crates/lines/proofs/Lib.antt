@@ -1,0 +1,17 @@
+-- Laws and theorems about the archive's lines.
+pub mod Decimals
+mod Faults
+mod FieldLaws
+mod Lent
+pub mod LineLaws
+mod Listing
+pub mod Openings
+mod Puts
+mod ReaderRows
+mod Runs
+pub mod RoundTrips
+pub mod Same
+pub mod Shape
+pub mod Splitting
+mod Turns
+pub mod WriterRows

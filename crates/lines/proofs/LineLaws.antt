@@ -1,0 +1,57 @@
+-- A line is its kind and its numbers.
+-- Assumes nothing.
+use mathlib.Core.Path.{_≡_, refl, sym, ap, _∙_}
+use mathlib.Core.Bool.{true}
+use mathlib.Core.List.{List, [], _∷_}
+use Prim.Native.Nat.{ℕ}
+use native.Mathlib.Omega.{arith}
+use lib.ListN.{length}
+use Rattle.meter.specs.Card.{fieldsOf}
+use Rattle.meter.specs.declared.card.Card.{Card}
+use Rattle.meter.proofs.Elements.{all as all-elements}
+use Rattle.lines.specs.Line.{Kind, opening, card, sample, totals, kindOf, firstField, numbersOf, countOf, cardOf, lineOf}
+use Rattle.lines.specs.declared.line.Line.{Line}
+use Rattle.lines.specs.declared.line.Line.the-variants as L
+use Rattle.lines.proofs.Shape.{Plain}
+use Rattle.lines.proofs.Splitting.{lacks}
+
+pub card-of : (c : Card) → cardOf (fieldsOf c) ≡ c
+unfolding cardOf fieldsOf
+card-of c = refl
+
+-- LAW: the line of a line's kind and numbers is that line
+pub line-of : (line : Line) → lineOf (kindOf line) (numbersOf line) ≡ line
+unfolding lineOf kindOf numbersOf cardOf fieldsOf
+line-of L.Opening = refl
+line-of (L.Card c) = refl
+line-of (L.Sample s) = refl
+line-of (L.End t) = refl
+
+pub counted : (line : Line) → length (numbersOf line) ≡ countOf (kindOf line)
+unfolding kindOf numbersOf countOf fieldsOf
+counted L.Opening = refl
+counted (L.Card c) = refl
+counted (L.Sample s) = refl
+counted (L.End t) = refl
+
+pub kind-line : (k : Kind) (ns : List ℕ) → kindOf (lineOf k ns) ≡ k
+unfolding kindOf lineOf
+kind-line opening ns = refl
+kind-line card ns = refl
+kind-line sample ns = refl
+kind-line totals ns = refl
+
+-- LAW: the numbers of the line of a kind are those that it was made of. The opening's is fixed.
+pub numbers-line : (k : Kind) (ns : List ℕ) → (k ≡ opening → ns ≡ 1 ∷ []) → length ns ≡ countOf k → numbersOf (lineOf k ns) ≡ ns
+unfolding numbersOf lineOf countOf cardOf fieldsOf
+numbers-line opening ns h e = sym (h refl)
+numbers-line card ns h e = all-elements ns 12 e
+numbers-line sample ns h e = all-elements ns 4 e
+numbers-line totals ns h e = all-elements ns 4 e
+
+pub plain : (k : Kind) → Plain (firstField k)
+unfolding firstField lacks
+plain opening = record { no-comma = refl; no-end = refl }
+plain card = record { no-comma = refl; no-end = refl }
+plain sample = record { no-comma = refl; no-end = refl }
+plain totals = record { no-comma = refl; no-end = refl }

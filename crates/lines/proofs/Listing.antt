@@ -1,0 +1,152 @@
+-- A line's numbers one after the other: how many bytes they take, whether one is too long, and their text as it is put together.
+-- Assumes nothing.
+use mathlib.Core.Path.{_≡_, refl, sym, ap, _∙_, subst}
+use mathlib.Core.Bool.{Bool, true, false, _||_}
+use mathlib.Core.List.{List, [], _∷_, _++_, append-assoc, append-nil, map}
+use Prim.Native.Nat.{ℕ, suc, _+_, _*_, _^_, _≤_, _<_}
+use native.Mathlib.Omega.{arith}
+use native.Mathlib.Numerals.{add-one}
+use lib.ListN.{length, getD, take, drop, set, length-append, length-set, drop-of-length-le}
+use lib.Seq.{drop-cons, length-take-le}
+use borrow.Author.Tests.{le-leb, lt-leb}
+use Rattle.lines.specs.Number.{decimal, isLong}
+use Rattle.lines.specs.Line.{kindOf, firstField, numbersOf, afterCommas, textOf, bytesOf}
+use Rattle.lines.specs.Writing.{someLong, putAt}
+use Rattle.lines.specs.Parts.{IsListed}
+use Rattle.lines.specs.declared.line.Line.{Line}
+use Rattle.lines.specs.declared.listed.Listed.{Listed}
+use Rattle.lines.proofs.Decimals.{decimal-short}
+use Rattle.lines.proofs.Puts.{Wrote, wrote-none, wrote-one, wrote-length, wrote-room, wrote-more, wrote-set}
+
+-- ---- a number that is too long
+
+module _ (ns : List ℕ) (i : ℕ) where
+  pub long-here : i < length ns → 10 ^ 18 ≤ getD ns i 0 → someLong (drop i ns) ≡ true
+  unfolding someLong isLong
+  long-here h g = rw (drop-cons ns i 0) (simp (le-leb (10 ^ 18) (getD ns i 0) g))
+
+  pub long-later : i < length ns → getD ns i 0 < 10 ^ 18 → someLong (drop i ns) ≡ someLong (drop (i + 1) ns)
+  unfolding someLong isLong
+  long-later h g = rw (add-one, drop-cons ns i 0) (simp (lt-leb (10 ^ 18) (getD ns i 0) g))
+
+  pub long-none : length ns ≤ i → someLong (drop i ns) ≡ false
+  unfolding someLong
+  long-none h = rw (drop-of-length-le ns h)
+
+-- ---- how many bytes
+
+-- the text of the numbers from i on
+abbrev textFrom : List ℕ → ℕ → List ℕ
+textFrom ns i = afterCommas (map decimal (drop i ns))
+
+text-one : (ns : List ℕ) (i : ℕ) → i < length ns → textFrom ns i ≡ (44 ∷ decimal (getD ns i 0)) ++ textFrom ns (i + 1)
+unfolding afterCommas
+text-one ns i h = rw (add-one, drop-cons ns i 0 h)
+
+text-none : (ns : List ℕ) (i : ℕ) → length ns ≤ i → textFrom ns i ≡ []
+unfolding afterCommas
+text-none ns i h = rw (drop-of-length-le ns h)
+
+-- sum bytes for the first i numbers, of at most twenty digits each
+pub record Counted (ns : List ℕ) (sum i : ℕ) : Type 0 where
+  pub few : i ≤ length ns
+  pub small : sum ≤ 21 * i
+  pub left : sum + length (textFrom ns i) ≡ length (textFrom ns 0)
+
+pub counted-none : (ns : List ℕ) → Counted ns 0 0
+counted-none ns = record { few = omega arith; small = omega arith; left = omega arith }
+
+pub width-small : (x : ℕ) → x < 2 ^ 64 → length (decimal x) ≤ 20
+width-small x h = decimal-short x 19 (omega arith)
+
+module _ (ns : List ℕ) (sum i : ℕ) (c : Counted ns sum i) where
+  pub counted-more : i < length ns → getD ns i 0 < 2 ^ 64 → Counted ns (sum + (length (decimal (getD ns i 0)) + 1)) (i + 1)
+  counted-more h g =
+      let few : i ≤ length ns = c .few in
+      let small : sum ≤ 21 * i = c .small in
+      let w : length (decimal (getD ns i 0)) ≤ 20 = width-small (getD ns i 0) g in
+      let l : length (textFrom ns i) ≡ suc (length (decimal (getD ns i 0))) + length (textFrom ns (i + 1)) =
+      ap length (text-one ns i h) ∙ length-append (44 ∷ decimal (getD ns i 0)) (textFrom ns (i + 1)) in
+      record { few = omega arith; small = omega arith; left = omega (arith, c .left) }
+
+  pub counted-all : length ns ≤ i → sum ≡ length (textFrom ns 0)
+  counted-all h = omega (arith, c .left, ap length (text-none ns i h))
+
+-- ---- the text as it is put together
+
+-- the first i numbers were put into xs from the place at on, which made ys, and k is the place after them
+pub record Progress (xs : List ℕ) (at : ℕ) (ns ys : List ℕ) (k i : ℕ) : Type 0 where
+  pub few : i ≤ length ns
+  pub text : List ℕ
+  pub wrote : Wrote xs at text ys k
+  pub left : text ++ textFrom ns i ≡ textFrom ns 0
+
+pub begun : (xs : List ℕ) (at : ℕ) (ns : List ℕ) → Progress xs at ns xs at 0
+begun xs at ns = record { few = omega arith; text = []; wrote = wrote-none xs at; left = refl }
+
+module _ (xs : List ℕ) (at : ℕ) (ns ys : List ℕ) (k i : ℕ) (p : Progress xs at ns ys k i) (room : at + length (textFrom ns 0) ≤ length xs) where
+  sizes : length (p .text) + length (textFrom ns i) ≡ length (textFrom ns 0)
+  sizes = sym (length-append (p .text) (textFrom ns i)) ∙ ap length (p .left)
+
+  module _ (h : i < length ns) where
+    fits : at + length (p .text) + length (44 ∷ decimal (getD ns i 0)) ≤ length xs
+    fits = omega (arith, sizes, ap length (text-one ns i h) ∙ length-append (44 ∷ decimal (getD ns i 0)) (textFrom ns (i + 1)))
+
+    pub next-room : k + length (44 ∷ decimal (getD ns i 0)) ≤ length ys
+    next-room = wrote-room xs at (p .text) ys k (p .wrote) (44 ∷ decimal (getD ns i 0)) fits
+
+    pub next : (zs : List ℕ) (r : ℕ) → (r ≡ k + length (44 ∷ decimal (getD ns i 0))) × (zs ≡ putAt ys k (44 ∷ decimal (getD ns i 0))) → Progress xs at ns zs r (i + 1)
+    next zs r e = record {
+      few = omega arith;
+      text = p .text ++ (44 ∷ decimal (getD ns i 0));
+      wrote = wrote-more xs at (p .text) ys k (p .wrote) (44 ∷ decimal (getD ns i 0)) fits zs r e;
+      left = append-assoc (p .text) (44 ∷ decimal (getD ns i 0)) (textFrom ns (i + 1)) ∙ ap (λ (l : List ℕ). p .text ++ l) (sym (text-one ns i h)) ∙ p .left;
+    }
+
+  pub same-long : length ys ≡ length xs
+  same-long = wrote-length xs at (p .text) ys k (p .wrote) [] (omega (arith, sizes))
+
+  pub all : length ns ≤ i → Wrote xs at (textFrom ns 0) ys k
+  all h = subst (λ (t : List ℕ). Wrote xs at t ys k) (sym (append-nil (p .text)) ∙ ap (λ (l : List ℕ). p .text ++ l) (sym (text-none ns i h)) ∙ p .left) (p .wrote)
+
+-- the letter, the numbers and the end
+module _ (xs : List ℕ) (at letter : ℕ) (ns : List ℕ) (room : at + length (textOf (letter ∷ []) ns) ≤ length xs) where
+  sizes-text : length (textOf (letter ∷ []) ns) ≡ 1 + length (textFrom ns 0) + 1
+  unfolding textOf
+  sizes-text = simp length-append (omega arith)
+
+  pub letter-room : at < length xs
+  letter-room = omega (arith, sizes-text)
+
+  pub fields-room : at + 1 + length (textFrom ns 0) ≤ length (set xs at letter)
+  fields-room = rw length-set (omega (arith, sizes-text))
+
+  module _ (ys : List ℕ) (k : ℕ) (e : (k ≡ at + 1 + length (textFrom ns 0)) × (ys ≡ putAt (set xs at letter) (at + 1) (textFrom ns 0))) where
+    put : Wrote xs at ((letter ∷ []) ++ textFrom ns 0) ys k
+    put = wrote-more xs at (letter ∷ []) (set xs at letter) (at + 1) (wrote-one xs at letter letter-room) (textFrom ns 0) (omega (arith, sizes-text)) ys k e
+
+    pub end-room : k < length ys
+    end-room = omega (arith, sizes-text, e .0, wrote-length xs at ((letter ∷ []) ++ textFrom ns 0) ys k put [] (omega (arith, sizes-text)))
+
+    pub text-put : Wrote xs at (textOf (letter ∷ []) ns) (set ys k 10) (k + 1)
+    unfolding textOf
+    text-put = wrote-set xs at ((letter ∷ []) ++ textFrom ns 0) ys k 10 put (omega (arith, sizes-text))
+
+-- ---- a line's numbers as they are listed
+
+module _ (line : Line) (l : Listed) (is : IsListed line l) where
+  pub listed-length : l .count ≡ length (take (l .count) (l .numbers))
+  listed-length = sym (length-take-le (l .count) (l .numbers) (omega (arith, is .few, is .long)))
+
+  pub listed-few : length (take (l .count) (l .numbers)) ≤ 12
+  listed-few = omega (arith, is .few, listed-length)
+
+  pub listed-text : (letter : ℕ) → firstField (kindOf line) ≡ letter ∷ [] → textOf (letter ∷ []) (take (l .count) (l .numbers)) ≡ bytesOf line
+  unfolding bytesOf
+  listed-text letter e = rw (is .are, e)
+
+  pub listed-size : (f n : ℕ) → f ≡ length (firstField (kindOf line)) → n ≡ length (textFrom (take (l .count) (l .numbers)) 0) → f + n + 1 ≡ length (bytesOf line)
+  unfolding bytesOf textOf
+  listed-size f n e g =
+      let h : n ≡ length (afterCommas (map decimal (numbersOf line))) = g ∙ ap (λ (ns : List ℕ). length (afterCommas (map decimal ns))) (is .are) in
+      simp length-append (omega (arith, e, h))

@@ -1,0 +1,77 @@
+-- `lines::writing::text_refusal` meets its contract: the two rows in order.
+-- Assumes nothing.
+use mathlib.Core.List.{_∷_, []}
+use mathlib.Core.Path.{_≡_, ap, _∙_}
+use Prim.Native.Nat.{ℕ, _+_}
+use lib.ListN.{length}
+use lib.Dec.{ltb}
+use borrow.Author.Needs.{needs}
+use Rattle.quantity.specs.Refusals.{row}
+use Rattle.quantity.proofs.Rows.{accumulated}
+use Rattle.lines.specs.Line.{numbersOf, bytesOf}
+use Rattle.lines.specs.Writing.{someLong}
+use Rattle.lines.proofs.Listing.{listed-length, listed-few, listed-size}
+use Rattle.lines.proofs.writing.text_refusal.Statement.{statement}
+use Rattle.lines.proofs.writing.text_refusal.Tie as tie
+
+numbers-of-requires : tie.Need-numbers-of-requires
+numbers-of-requires c κs = search needs
+
+first-length-requires : tie.Need-first-length-requires
+first-length-requires c κs = search needs
+
+array-share-prefix-numbers : tie.Need-array-share-prefix-numbers
+array-share-prefix-numbers c = search needs
+
+slice-aggregate-fields-length : tie.Need-slice-aggregate-fields-length
+slice-aggregate-fields-length c = listed-length _ _ (c .before .before .before .numbers-of .ensures)
+
+fields-length-requires : tie.Need-fields-length-requires
+fields-length-requires c κs = listed-few _ _ (c .before .before .before .numbers-of .ensures)
+
+add-size : tie.Need-add-size
+add-size c = search needs
+
+add-size-2 : tie.Need-add-size-2
+add-size-2 c = search needs
+
+array-share-prefix-numbers-2 : tie.Need-array-share-prefix-numbers-2
+array-share-prefix-numbers-2 c = search needs
+
+slice-aggregate-has-long : tie.Need-slice-aggregate-has-long
+slice-aggregate-has-long c = listed-length _ _ (c .before .before .before .before .before .numbers-of .ensures)
+
+has-long-requires : tie.Need-has-long-requires
+has-long-requires c κs = search needs
+
+or-row-requires : tie.Need-or-row-requires
+or-row-requires c κs = search needs
+
+or-row-requires-2 : tie.Need-or-row-requires-2
+or-row-requires-2 c κs = search needs
+
+returns : tie.Need-returns
+returns c =
+    let s = c .before .before .before .before .before .before .before .before .before in
+    let n = c .before .before .before .before .before .before .before .before .numbers-of in
+    let e = listed-size _ _ (n .ensures) _ _ (c .before .before .before .before .before .before .first-length .ensures .0) (c .before .before .before .before .fields-length .ensures .0) in
+    simp (c .or-row2 .ensures, c .before .or-row .ensures, c .before .before .has-long .ensures, n .ensures .are, e)
+    (accumulated (row 62 (someLong (numbersOf (s .args .line))) ∷ row 66 (ltb (s .args .room) (length (bytesOf (s .args .line)))) ∷ []))
+
+pub text-refusal-spec : {M : Type 1} → statement M
+text-refusal-spec =
+    tie.close
+    (tie.spec
+    numbers-of-requires
+    first-length-requires
+    array-share-prefix-numbers
+    slice-aggregate-fields-length
+    fields-length-requires
+    add-size
+    add-size-2
+    array-share-prefix-numbers-2
+    slice-aggregate-has-long
+    has-long-requires
+    or-row-requires
+    or-row-requires-2
+    returns)

@@ -1,0 +1,7 @@
+-- What the contracts of this crate, and of those above it, cite.
+pub mod Number
+pub mod Line
+pub mod Reading
+pub mod Writing
+pub mod RoundTrip
+pub mod Parts

@@ -1,0 +1,72 @@
+-- What the functions inside reader and writer answer. None of it is part of what reading and writing mean: the public contracts cite
+-- specs/Reading.antt and specs/Writing.antt alone.
+use mathlib.Core.Path.{_≡_}
+use Prim.Native.Nat.{ℕ, zero, suc, _+_, _/_, _%_, _≤_, _<_}
+use mathlib.Core.Bool.{Bool, cond}
+use mathlib.Core.List.{List, [], _∷_, _++_}
+use mathlib.Core.Logic.{_⊎_}
+use lib.Dec.{eqb}
+use lib.ListN.{length, getD, take}
+use Rattle.quantity.specs.Refusals.{firstOf}
+use Rattle.quantity.specs.declared.refusal.Outcome.the-variants as O
+use Rattle.lines.specs.Number.{isDigit, isNumber, valueOf}
+use Rattle.lines.specs.Line.{Kind, sample, totals, numbersOf}
+use Rattle.lines.specs.Reading.{shapeRows, numbersIn, sizeOf}
+use Rattle.lines.specs.declared.line.Line.{Line}
+use Rattle.lines.specs.declared.listed.Listed.{Listed}
+use Rattle.lines.specs.declared.number.Field.{Field}
+use Rattle.lines.specs.declared.number.Field.the-variants as N
+use Rattle.lines.specs.declared.fields.Numbers.{Numbers}
+use Rattle.lines.specs.declared.fields.Numbers.the-variants as A
+
+-- the digits at the front of a text
+unfoldable pub run : List ℕ → List ℕ
+run [] = []
+run (b ∷ bs) = cond (isDigit b) (b ∷ run bs) []
+
+-- the number that the digits at the front of a text are, and how many they are
+unfoldable pub numberAt : List ℕ → Field
+numberAt bs = cond (isNumber (run bs)) (N.Number (valueOf (run bs)) (length (run bs))) N.Missing
+
+-- a comma and the number after it
+unfoldable pub oneMore : Field → Field
+oneMore (N.Number v n) = N.Number v (n + 1)
+oneMore N.Missing = N.Missing
+
+unfoldable pub fieldAt : List ℕ → Field
+fieldAt [] = N.Missing
+fieldAt (b ∷ bs) = cond (eqb b 44) (oneMore (numberAt bs)) N.Missing
+
+-- the numbers of a line and the bytes that it takes, where no row of its shape refuses it; or the refusal
+pub data NumbersRead (first : List ℕ) (bs out : List ℕ) : Numbers → Type 0 where
+  all : firstOf (shapeRows first (length out) bs) ≡ O.Accepted → out ≡ numbersIn bs → NumbersRead first bs out (A.All (sizeOf bs))
+  refused : (r : ℕ) → firstOf (shapeRows first (length out) bs) ≡ O.Refused r → NumbersRead first bs out (A.Refused r)
+
+-- the digits at the front of a text, as far as a nineteenth: n of them, which say value
+pub record Digits (bs : List ℕ) (value n : ℕ) : Type 0 where
+  pub counted : n ≡ length (take 19 (run bs))
+  pub says : value ≡ valueOf (take 19 (run bs))
+
+-- the last k digits of n
+unfoldable pub lastDigits : ℕ → ℕ → List ℕ
+lastDigits zero n = []
+lastDigits (suc k) n = lastDigits k (n / 10) ++ ((48 + n % 10) ∷ [])
+
+-- a line's numbers as the code lists them: the first count of twelve
+pub record IsListed (line : Line) (l : Listed) : Type 0 where
+  pub few : l .count ≤ 12
+  pub long : length (l .numbers) ≡ 12
+  pub are : take (l .count) (l .numbers) ≡ numbersOf line
+
+-- bytes that begin with a letter, which parts neither fields nor lines
+pub record Lettered (letter : ℕ) (bs : List ℕ) : Type 0 where
+  pub some : 0 < length bs
+  pub first : getD bs 0 0 ≡ letter
+  pub apart : 44 < letter
+
+-- the two letters of lines of four numbers, and the kind that each names
+abbrev pub FourLetter : ℕ → Type 0
+FourLetter letter = (letter ≡ 83) ⊎ (letter ≡ 69)
+
+unfoldable pub fourKind : ℕ → Kind
+fourKind letter = cond (eqb letter 69) totals sample
