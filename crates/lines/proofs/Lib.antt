@@ -8,6 +8,7 @@ mod Listing
 pub mod Openings
 mod Puts
 mod ReaderRows
+mod Reports
 mod Runs
 pub mod RoundTrips
 pub mod Same

@@ -7,6 +7,7 @@ mod listed;
 mod number;
 mod opening;
 mod reading;
+mod report;
 mod writing;
 
 pub use held::ReadLine;
@@ -18,4 +19,6 @@ pub use line::Totals;
 pub use line::Written;
 pub use reading::front_line;
 pub use reading::rest_after;
+pub use report::Report;
+pub use report::write_report;
 pub use writing::write_line;

@@ -96,7 +96,7 @@ fn put_listed(buf: &mut [u8], at: usize, letter: u8, line: Line) -> usize
 }
 
 // Puts a letter, the numbers and the line's end.
-fn put_text(buf: &mut [u8], at: usize, letter: u8, numbers: &[u64]) -> usize
+pub(crate) fn put_text(buf: &mut [u8], at: usize, letter: u8, numbers: &[u64]) -> usize
     requires { ⌜ at + length (textOf (letter ∷ []) (now numbers)) ≤ length (now buf) ⌝ }
     ensures { λ r. ⌜ (r ≡ at + length (textOf (letter ∷ []) (now (numbers .entry)))) × (now (buf .exit) ≡ putAt (now (buf .entry)) at (textOf (letter ∷ []) (now (numbers .entry)))) ⌝ }
 {

@@ -1,0 +1,13 @@
+-- Laws and theorems about the audit.
+pub mod RoundTrip
+pub mod Bodies
+pub mod Files
+pub mod Stops
+pub mod Acceptance
+pub mod Readings
+pub mod Refusing
+pub mod Loop
+pub mod OneLine
+pub mod Nothing
+pub mod Turning
+pub mod Starting

@@ -1,0 +1,30 @@
+-- The size of a text of a letter and numbers, and where it finds room.
+-- Assumes nothing.
+use mathlib.Core.Path.{_≡_, _∙_}
+use mathlib.Core.List.{List, [], _∷_, _++_, map}
+use Prim.Native.Nat.{ℕ, _+_, _≤_, _<_}
+use native.Mathlib.Omega.{arith}
+use lib.ListN.{length, length-append}
+use borrow.Author.Tests.{lt-ltb, le-ltb}
+use Rattle.lines.specs.Number.{decimal}
+use Rattle.lines.specs.Line.{afterCommas, textOf}
+use Rattle.lines.specs.Report.{placedOf}
+use Rattle.lines.specs.declared.line.Written.the-variants as W
+
+pub text-size : (letter : ℕ) (ns : List ℕ) → length (textOf (letter ∷ []) ns) ≡ length (afterCommas (map decimal ns)) + 2
+unfolding textOf
+text-size letter ns =
+    let l : length (afterCommas (map decimal ns) ++ (10 ∷ [])) ≡ length (afterCommas (map decimal ns)) + 1 = length-append (afterCommas (map decimal ns)) (10 ∷ []) in
+    omega (arith, l)
+
+pub no-room : (size : ℕ) (text : List ℕ) → size < length text → placedOf size text ≡ W.Refused 66
+unfolding placedOf
+no-room size text h = simp (lt-ltb size (length text) h)
+
+pub room : (size : ℕ) (text : List ℕ) → length text ≤ size → placedOf size text ≡ W.Next (length text)
+unfolding placedOf
+room size text h = simp (le-ltb size (length text) h)
+
+-- a place counted from the front
+pub from-front : (n : ℕ) → 0 + n ≡ n
+from-front n = omega arith
