@@ -1,6 +1,6 @@
 -- The text of a number: what it says is the number, and it is the only text that says it.
 -- Assumes nothing.
-use mathlib.Core.Path.{_≡_, refl, sym, ap, _∙_, subst}
+use mathlib.Core.Path.{_≡_, refl, sym, ap, _∙_}
 use mathlib.Core.Bool.{Bool, true, false, not, _&&_, _||_, or-true}
 use mathlib.Core.List.{List, [], _∷_, _++_, append-assoc, append-nil}
 use Prim.Native.Nat.{ℕ, zero, suc, _+_, _-_, _*_, _/_, _%_, _^_, _≤_, _<_}
@@ -72,7 +72,7 @@ pub digit-high : (b : ℕ) → isDigit b ≡ true → b ≤ 57
 unfolding isDigit
 digit-high b p = leb-true b 57 (both (leb 48 b) (leb b 57) p .1)
 
-digits-snoc : (d : List ℕ) (b : ℕ) → areDigits d ≡ true → isDigit b ≡ true → areDigits (d ++ (b ∷ [])) ≡ true
+pub digits-snoc : (d : List ℕ) (b : ℕ) → areDigits d ≡ true → isDigit b ≡ true → areDigits (d ++ (b ∷ [])) ≡ true
 unfolding areDigits
 digits-snoc [] b p q = simp q
 digits-snoc (x ∷ d) b p q =

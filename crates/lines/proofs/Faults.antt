@@ -1,9 +1,9 @@
 -- The shape of a line, found by going through it: which of 61 and 62 a line that is no line of its kind gets.
 -- Assumes nothing.
-use mathlib.Core.Path.{_≡_, refl, sym, ap, _∙_, subst}
-use mathlib.Core.Bool.{Bool, true, false, cond, not, _&&_, _||_, or-true}
-use mathlib.Core.List.{List, [], _∷_, _++_}
-use Prim.Native.Nat.{ℕ, suc, _+_, _≤_, _<_}
+use mathlib.Core.Path.{_≡_, refl, sym, ap, _∙_}
+use mathlib.Core.Bool.{Bool, true, false, cond, not, _||_, or-true}
+use mathlib.Core.List.{List, [], _∷_}
+use Prim.Native.Nat.{ℕ, _+_, _≤_, _<_}
 use native.Mathlib.Omega.{arith}
 use native.Mathlib.Numerals.{add-one}
 use lib.Dec.{eqb}
@@ -18,7 +18,7 @@ use Rattle.lines.specs.Reading.{isSame, untilEnd, isEnded, sizeOf, withF
 use Rattle.lines.specs.Writing.{someLong}
 use Rattle.lines.specs.Parts.{Lettered}
 use Rattle.lines.proofs.Splitting.{Parted, parted, split-parted, length-parted}
-use Rattle.lines.proofs.Shape.{lineBytes, IsLine, shape-forth}
+use Rattle.lines.proofs.Shape.{lineBytes, shape-forth}
 
 -- ---- the count of fields
 

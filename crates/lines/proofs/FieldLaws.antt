@@ -1,14 +1,13 @@
 -- A comma and the number after it: what is written is read back, and what is read is what is written.
 -- Assumes nothing.
-use mathlib.Core.Path.{_≡_, refl, sym, ap, _∙_, subst}
-use mathlib.Core.Bool.{Bool, true, false, cond}
+use mathlib.Core.Path.{_≡_, refl, sym, ap, _∙_}
+use mathlib.Core.Bool.{true, false}
 use mathlib.Core.List.{List, [], _∷_, _++_, append-nil}
-use Prim.Native.Nat.{ℕ, suc, _+_, _^_, _≤_, _<_}
+use Prim.Native.Nat.{ℕ, _+_, _^_, _≤_, _<_}
 use native.Mathlib.Omega.{arith}
 use native.Mathlib.Numerals.{add-one}
 use lib.Dec.{eqb}
 use lib.ListN.{length, getD, drop, length-append}
-use lib.Seq.{drop-append-seam, drop-drop}
 use borrow.Author.Tests.{eq-eqb, ne-eqb, eqb-true}
 use Rattle.quantity.proofs.Conditions.{both}
 use Rattle.lines.specs.Number.{decimal, isDigit, areDigits, valueOf, isNumber}
@@ -16,7 +15,6 @@ use Rattle.lines.specs.Parts.{run, numberAt, oneMore, fieldAt}
 use Rattle.lines.specs.declared.number.Field.{Field}
 use Rattle.lines.specs.declared.number.Field.the-variants.{Number, Missing}
 use Rattle.lines.proofs.Decimals.{decimal-digits, decimal-number, value-decimal, number-decimal, number-small}
-use Rattle.lines.proofs.Runs.{run-within}
 
 -- ---- by the tests
 

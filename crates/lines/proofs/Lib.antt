@@ -1,5 +1,6 @@
 -- Laws and theorems about the archive's lines.
 pub mod Decimals
+pub mod Exactness
 mod Faults
 mod FieldLaws
 mod Lent
@@ -8,7 +9,7 @@ mod Listing
 pub mod Openings
 mod Puts
 mod ReaderRows
-mod Reports
+pub mod Reports
 mod Runs
 pub mod RoundTrips
 pub mod Same

@@ -1,22 +1,22 @@
 -- What reading means, by the kind of line that is due, as the code finds it.
 -- Assumes nothing.
-use mathlib.Core.Path.{_≡_, refl, sym, ap, _∙_, subst}
-use mathlib.Core.Bool.{Bool, true, false, cond, not, _||_}
-use mathlib.Core.List.{List, [], _∷_, _++_, append-nil}
-use mathlib.Core.Logic.{_⊎_, inl, inr}
+use mathlib.Core.Path.{_≡_, refl, sym, ap, _∙_}
+use mathlib.Core.Bool.{true, false}
+use mathlib.Core.List.{List, [], _∷_, _++_}
+use mathlib.Core.Logic.{inl, inr}
 use Prim.Native.Nat.{ℕ, _+_, _<_}
 use native.Mathlib.Omega.{arith}
 use lib.Dec.{eqb}
 use lib.ListN.{length, getD, take, drop, take-append-drop}
 use borrow.Author.Tests.{ne-eqb}
-use Rattle.quantity.specs.Refusals.{row, firstOf}
+use Rattle.quantity.specs.Refusals.{firstOf}
 use Rattle.quantity.specs.declared.refusal.Outcome.{Outcome}
 use Rattle.quantity.specs.declared.refusal.Outcome.the-variants.{Accepted, Refused}
 use Rattle.quantity.proofs.Rows.{parts, orElse}
 use Rattle.meter.specs.Card.{fieldsOf, cardRows}
 use Rattle.meter.specs.declared.card.Card.{Card}
 use Rattle.lines.specs.Number.{decimal, decimalBy}
-use Rattle.lines.specs.Line.{Kind, opening, card, sample, totals, kindOf, firstField, numbersOf, afterCommas, textOf, bytesOf, contentRows, countOf, cardOf, lineOf}
+use Rattle.lines.specs.Line.{Kind, opening, sample, totals, kindOf, firstField, numbersOf, afterCommas, textOf, bytesOf, contentRows, countOf, cardOf, lineOf}
 use Rattle.lines.specs.Reading.{isSame, untilEnd, sizeOf, split, fieldsIn, firstIn, numbersIn, shapeRows, dueKind, lineIn, readRows, answerOf, readOf}
 use Rattle.lines.specs.Parts.{Lettered, NumbersRead, all, refused, FourLetter, fourKind}
 use Rattle.lines.specs.declared.fields.Numbers.{Numbers}
@@ -24,13 +24,12 @@ use Rattle.lines.specs.declared.fields.Numbers.the-variants as A
 use Rattle.lines.specs.declared.line.Line.{Line}
 use Rattle.lines.specs.declared.line.Line.the-variants as L
 use Rattle.lines.specs.declared.line.MayCome.the-variants as M
-use Rattle.lines.specs.declared.line.Front.{Front}
 use Rattle.lines.specs.declared.line.Front.the-variants as F
 use Rattle.lines.proofs.Same.{same-true}
-use Rattle.lines.proofs.Splitting.{Parted, parted, split-parted}
+use Rattle.lines.proofs.Splitting.{split-parted}
 use Rattle.lines.proofs.Shape.{lineBytes, size-back}
 use Rattle.lines.proofs.LineLaws.{card-of, plain}
-use Rattle.lines.proofs.Openings.{opening-bytes, opening-length}
+use Rattle.lines.proofs.Openings.{opening-length}
 use Rattle.lines.proofs.Faults.{misshapen-first, first-of}
 
 -- ---- the opening

@@ -1,11 +1,13 @@
 -- The size of a text of a letter and numbers, and where it finds room.
 -- Assumes nothing.
-use mathlib.Core.Path.{_≡_, _∙_}
+use mathlib.Core.Path.{_≡_, refl, sym, _∙_}
+use mathlib.Core.Bool.{true, false}
 use mathlib.Core.List.{List, [], _∷_, _++_, map}
 use Prim.Native.Nat.{ℕ, _+_, _≤_, _<_}
 use native.Mathlib.Omega.{arith}
 use lib.ListN.{length, length-append}
-use borrow.Author.Tests.{lt-ltb, le-ltb}
+use lib.Dec.{ltb}
+use borrow.Author.Tests.{lt-ltb, le-ltb, ltb-true, ltb-false}
 use Rattle.lines.specs.Number.{decimal}
 use Rattle.lines.specs.Line.{afterCommas, textOf}
 use Rattle.lines.specs.Report.{placedOf}
@@ -28,3 +30,15 @@ room size text h = simp (le-ltb size (length text) h)
 -- a place counted from the front
 pub from-front : (n : ℕ) → 0 + n ≡ n
 from-front n = omega arith
+
+-- a place that is answered lies within the buffer
+pub next-within : (size : ℕ) (text : List ℕ) (n : ℕ) → placedOf size text ≡ W.Next n → n ≤ size
+next-within size text n e =
+    elim (ltb size (length text)) as (λ t. ltb size (length text) ≡ t → n ≤ size) [
+      | true ↦ λ t. absurd (let f : W.Refused 66 ≡ W.Next n = sym (no-room size text (ltb-true size (length text) t)) ∙ e in let z : _≡_ {A = ℕ} 0 1 = cc f in omega arith)
+      | false ↦ λ t.
+          let le : length text ≤ size = ltb-false size (length text) t in
+          let f : W.Next (length text) ≡ W.Next n = sym (room size text le) ∙ e in
+          let g : length text ≡ n = cc f in
+          omega (arith, le, g)
+    ] refl

@@ -1,23 +1,23 @@
 -- The round trips: what is written is read back, what is read is what is written, and a line's bytes are its own.
 -- Assumes nothing.
 use mathlib.Core.Path.{_≡_, refl, sym, ap, _∙_, subst}
-use mathlib.Core.Bool.{Bool, true, false, cond, not, _||_}
+use mathlib.Core.Bool.{Bool, true, false, cond}
 use mathlib.Core.List.{List, [], _∷_, _++_, append-assoc, append-nil, map}
 use mathlib.Core.Logic.{_⊎_, inl, inr}
-use Prim.Native.Nat.{ℕ, _+_, _-_, _≤_, _<_}
+use Prim.Native.Nat.{ℕ, _+_, _-_, _≤_}
 use native.Mathlib.Omega.{arith}
 use lib.Dec.{eqb, ltb}
-use lib.ListN.{length, getD, take, drop, length-append, length-take, length-drop}
+use lib.ListN.{length, getD, take, drop, length-append}
 use lib.Seq.{drop-at, take-at, length-take-le, drop-drop, drop-append-seam}
 use borrow.Author.Tests.{ltb-false, ltb-true, not-false}
-use Rattle.quantity.specs.Refusals.{Row, row, firstOf, NoneApplies}
+use Rattle.quantity.specs.Refusals.{row, firstOf, NoneApplies}
 use Rattle.quantity.specs.declared.refusal.Outcome.{Outcome}
 use Rattle.quantity.specs.declared.refusal.Outcome.the-variants.{Accepted, Refused}
 use Rattle.quantity.proofs.Rows.{no-refusal, none-applies, none-of-parts}
-use Rattle.meter.specs.Card.{fieldsOf, cardRows}
+use Rattle.meter.specs.Card.{cardRows}
 use Rattle.meter.specs.declared.card.Card.{Card}
-use Rattle.lines.specs.Number.{decimal, valueOf, isLong}
-use Rattle.lines.specs.Line.{Kind, opening, card, sample, totals, kindOf, firstField, numbersOf, afterCommas, textOf, bytesOf, contentRows, countOf, cardOf, lineOf}
+use Rattle.lines.specs.Number.{decimal, isLong}
+use Rattle.lines.specs.Line.{Kind, opening, card, sample, totals, kindOf, firstField, numbersOf, afterCommas, textOf, bytesOf, contentRows, countOf, lineOf}
 use Rattle.lines.specs.Reading.{isSame, sizeOf, fieldsIn, firstIn, numbersIn, shapeRows, dueKind, lineIn, readRows, answerOf, readOf, restOf}
 use Rattle.lines.specs.Writing.{someLong, writeRows, placeOf, writtenOf, putAt, bufferAfter}
 use Rattle.lines.specs.Parts.{FourLetter, fourKind}
@@ -26,16 +26,14 @@ use Rattle.lines.specs.declared.line.Line.{Line}
 use Rattle.lines.specs.declared.line.Line.the-variants as L
 use Rattle.lines.specs.declared.line.MayCome.{MayCome}
 use Rattle.lines.specs.declared.line.MayCome.the-variants as M
-use Rattle.lines.specs.declared.line.Front.{Front}
 use Rattle.lines.specs.declared.line.Front.the-variants as F
-use Rattle.lines.specs.declared.line.Written.{Written}
 use Rattle.lines.specs.declared.line.Written.the-variants as W
 use Rattle.lines.proofs.Same.{same-eq}
-use Rattle.lines.proofs.Shape.{lineBytes, numbers-back, size-back, shape-back, fields-back, IsLine, shape-forth}
+use Rattle.lines.proofs.Shape.{lineBytes, numbers-back, size-back, shape-back, fields-back, shape-forth}
 use Rattle.lines.proofs.LineLaws.{line-of, counted, kind-line, numbers-line, plain}
 use Rattle.lines.proofs.Openings.{opening-length}
-use Rattle.lines.proofs.ReaderRows.{opening-front, opening-sized, opening-read, opening-refused, card-read, four-read}
-use Rattle.lines.proofs.WriterRows.{Writable, writable, refused-place, by-text}
+use Rattle.lines.proofs.ReaderRows.{opening-front, opening-sized, opening-read, card-read, four-read}
+use Rattle.lines.proofs.WriterRows.{writable, refused-place, by-text}
 
 -- ---- the bytes of a line
 

@@ -1,14 +1,14 @@
 -- The digits at the front of a text: what `numberAt` is by the tests that the code makes, and the loop over the digits.
 -- Assumes nothing.
-use mathlib.Core.Path.{_≡_, refl, sym, ap, _∙_, subst}
-use mathlib.Core.Bool.{Bool, true, false, cond, not, _&&_, _||_, and-false, or-true}
+use mathlib.Core.Path.{_≡_, refl, sym, ap, _∙_}
+use mathlib.Core.Bool.{true, false, not, _||_, and-false, or-true}
 use mathlib.Core.List.{List, [], _∷_, _++_, append-assoc, append-nil}
 use mathlib.Core.Logic.{_⊎_, inl, inr, ⊎-elim}
-use Prim.Native.Nat.{ℕ, zero, suc, _+_, _-_, _*_, _^_, _≤_, _<_, min}
+use Prim.Native.Nat.{ℕ, suc, _+_, _-_, _*_, _^_, _≤_, _<_, min}
 use native.Mathlib.Omega.{arith}
 use native.Mathlib.Numerals.{add-one}
 use native.Mathlib.Nat.{pow-le-pow-right, lt-of-lt-of-le}
-use lib.Dec.{leb, eqb}
+use lib.Dec.{eqb}
 use lib.ListN.{length, getD, take, drop, length-take, drop-of-length-le}
 use lib.Seq.{drop-cons, take-suc, take-at, take-all, length-take-le}
 use borrow.Author.Tests.{le-leb, lt-leb, eq-eqb, ne-eqb}
@@ -16,7 +16,7 @@ use Rattle.quantity.proofs.Conditions.{both}
 use Rattle.lines.specs.Number.{isDigit, areDigits, valueOf, isNumber}
 use Rattle.lines.specs.Parts.{run, numberAt, Digits}
 use Rattle.lines.specs.declared.number.Field.the-variants.{Number, Missing}
-use Rattle.lines.proofs.Decimals.{true-both, digit-high, value-snoc, value-below}
+use Rattle.lines.proofs.Decimals.{digits-snoc, value-snoc, value-below}
 
 -- ---- by the tests
 
@@ -104,13 +104,6 @@ pub record Passed (bs : List ℕ) (v n : ℕ) : Type 0 where
 pub passed-none : (bs : List ℕ) → Passed bs 0 0
 unfolding areDigits valueOf
 passed-none bs = record { within = omega arith; digits = refl; says = refl; goes-on = refl }
-
-digits-snoc : (d : List ℕ) (b : ℕ) → areDigits d ≡ true → isDigit b ≡ true → areDigits (d ++ (b ∷ [])) ≡ true
-unfolding areDigits
-digits-snoc [] b p q = simp q
-digits-snoc (x ∷ d) b p q =
-    let h = both (isDigit x) (areDigits d) p in
-    true-both (isDigit x) (areDigits (d ++ (b ∷ []))) (h .0) (digits-snoc d b (h .1) q)
 
 module _ (bs : List ℕ) (v n : ℕ) (p : Passed bs v n) where
   -- n digits say less than 10 ^ n

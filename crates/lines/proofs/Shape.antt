@@ -1,16 +1,15 @@
 -- The shape of a line: a first field and numbers that are joined have it, and bytes that have it are joined of those.
 -- Assumes nothing.
-use mathlib.Core.Path.{_≡_, refl, sym, ap, _∙_, subst}
-use mathlib.Core.Bool.{Bool, true, false, cond, not, _&&_, _||_}
+use mathlib.Core.Path.{_≡_, refl, sym, ap, _∙_}
+use mathlib.Core.Bool.{true, false, not, _||_}
 use mathlib.Core.List.{List, [], _∷_, _++_, append-assoc, map}
-use Prim.Native.Nat.{ℕ, suc, _+_, _^_, _≤_, _<_}
+use Prim.Native.Nat.{ℕ, _+_, _^_, _<_}
 use native.Mathlib.Omega.{arith}
-use lib.Dec.{eqb, leb}
-use lib.ListN.{length, getD, take, drop, length-append, length-map}
+use lib.Dec.{eqb}
+use lib.ListN.{length, drop, length-append, length-map}
 use borrow.Author.Tests.{eq-eqb, ne-eqb, eqb-true, leb-false, lt-leb, not-false}
-use Rattle.quantity.specs.Refusals.{row, firstOf}
-use Rattle.quantity.specs.declared.refusal.Outcome.{Outcome}
-use Rattle.quantity.specs.declared.refusal.Outcome.the-variants.{Accepted, Refused}
+use Rattle.quantity.specs.Refusals.{firstOf}
+use Rattle.quantity.specs.declared.refusal.Outcome.the-variants.{Accepted}
 use Rattle.quantity.proofs.Rows.{none-applies, no-refusal}
 use Rattle.quantity.proofs.Conditions.{neither, both}
 use Rattle.lines.specs.Number.{decimal, isDigit, areDigits, isNumber, valueOf, isLong}

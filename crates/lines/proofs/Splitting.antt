@@ -1,17 +1,17 @@
 -- A line's bytes, split at its end and at its commas: joined fields are split again, and split bytes are joined again.
 -- Assumes nothing.
-use mathlib.Core.Path.{_≡_, refl, sym, ap, _∙_}
-use mathlib.Core.Bool.{Bool, true, false, cond, not, _&&_, _||_, or-true}
-use mathlib.Core.List.{List, [], _∷_, _++_, append-assoc, append-nil, map}
-use Prim.Native.Nat.{ℕ, suc, _+_}
+use mathlib.Core.Path.{_≡_, refl, ap, _∙_}
+use mathlib.Core.Bool.{Bool, true, false, cond, not, _&&_, or-true}
+use mathlib.Core.List.{List, [], _∷_, _++_, append-nil}
+use Prim.Native.Nat.{ℕ, _+_}
 use native.Mathlib.Omega.{arith}
 use native.Mathlib.Numerals.{add-one}
 use lib.Dec.{eqb}
-use lib.ListN.{length, getD, drop, length-append}
-use borrow.Author.Tests.{eq-eqb, ne-eqb, eqb-true, not-true}
+use lib.ListN.{length, getD, drop}
+use borrow.Author.Tests.{eqb-true, not-true}
 use Rattle.quantity.proofs.Conditions.{both}
 use Rattle.lines.specs.Line.{afterCommas}
-use Rattle.lines.specs.Reading.{untilEnd, isEnded, sizeOf, withFirst, split, fieldsIn, firstIn, othersIn}
+use Rattle.lines.specs.Reading.{untilEnd, isEnded, sizeOf, withFirst, split}
 use Rattle.lines.proofs.Decimals.{true-both}
 
 -- the byte b is not among the bytes

@@ -7,7 +7,6 @@ use Rattle.meter.specs.Card.{fieldsOf, cardRows}
 use Rattle.meter.specs.declared.card.Card.{Card}
 use Rattle.meter.specs.declared.sample.Sample.{Sample}
 use Rattle.lines.specs.Number.{decimal}
-use Rattle.lines.specs.declared.line.Totals.{Totals}
 use Rattle.lines.specs.declared.line.Line.{Line}
 use Rattle.lines.specs.declared.line.Line.the-variants as L
 

@@ -2,7 +2,7 @@
 use crate::line::Line;
 use crate::number::width;
 ghost use mathlib.Core.Path.{_≡_};
-ghost use mathlib.Core.List.{map};
+ghost use mathlib.Core.List.{[], _∷_, map};
 ghost use Prim.Native.Nat.{_≤_};
 ghost use lib.ListN.{length};
 ghost use Rattle.lines.specs.Number.{decimal};
@@ -41,40 +41,17 @@ pub(crate) fn numbers_of(line: Line) -> Listed
                 c.ps,
             ],
         },
-        Line::Sample(s) => Listed {
-            count: 4,
-            numbers: [
-                s.pulses,
-                s.seconds,
-                s.supply_reading,
-                s.return_reading,
-                0,
-                0,
-                0,
-                0,
-                0,
-                0,
-                0,
-                0,
-            ],
-        },
-        Line::End(t) => Listed {
-            count: 4,
-            numbers: [
-                t.accepted,
-                t.refused,
-                t.register,
-                t.volume,
-                0,
-                0,
-                0,
-                0,
-                0,
-                0,
-                0,
-                0,
-            ],
-        },
+        Line::Sample(s) => list_four(s.pulses, s.seconds, s.supply_reading, s.return_reading),
+        Line::End(t) => list_four(t.accepted, t.refused, t.register, t.volume),
+    }
+}
+
+fn list_four(a: u64, b: u64, c: u64, d: u64) -> Listed
+    ensures { λ r. ⌜ r ≡ record { count = 4; numbers = a ∷ b ∷ c ∷ d ∷ 0 ∷ 0 ∷ 0 ∷ 0 ∷ 0 ∷ 0 ∷ 0 ∷ 0 ∷ [] } ⌝ }
+{
+    Listed {
+        count: 4,
+        numbers: [a, b, c, d, 0, 0, 0, 0, 0, 0, 0, 0],
     }
 }
 

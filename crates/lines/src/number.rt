@@ -3,8 +3,8 @@ ghost use mathlib.Core.Path.{_≡_};
 ghost use mathlib.Core.Logic.{_⊎_};
 ghost use mathlib.Core.List.{_++_, _∷_};
 ghost use Prim.Native.Nat.{_+_, _≤_};
-ghost use lib.ListN.{length, take, drop};
-ghost use Rattle.lines.specs.Number.{isDigit, valueOf, decimal};
+ghost use lib.ListN.{length, drop};
+ghost use Rattle.lines.specs.Number.{isDigit, decimal};
 ghost use Rattle.lines.specs.Parts.{Digits, numberAt, fieldAt, lastDigits};
 
 // A number and how many bytes it takes, or none.

@@ -17,8 +17,14 @@ enum-known-line c = search needs
 enum-known-line-2 : tie.Need-enum-known-line-2
 enum-known-line-2 c = search needs
 
+list-four-requires : tie.Need-list-four-requires
+list-four-requires c κs = search needs
+
 enum-known-line-3 : tie.Need-enum-known-line-3
 enum-known-line-3 c = search needs
+
+list-four-requires-2 : tie.Need-list-four-requires-2
+list-four-requires-2 c κs = search needs
 
 returns : tie.Need-returns
 unfolding numbersOf
@@ -30,11 +36,11 @@ returns-2 c = record { few = omega arith; long = refl; are = sym (ap numbersOf (
 
 returns-3 : tie.Need-returns-3
 unfolding numbersOf
-returns-3 c = record { few = omega arith; long = refl; are = sym (ap numbersOf (c .before .line2 .given .1)) }
+returns-3 c = rw (c .list-four .ensures) (record { few = omega arith; long = refl; are = sym (ap numbersOf (c .before .before .line2 .given .1)) })
 
 returns-4 : tie.Need-returns-4
 unfolding numbersOf
-returns-4 c = record { few = omega arith; long = refl; are = sym (ap numbersOf (c .before .line3 .given .1)) }
+returns-4 c = rw (c .list-four2 .ensures) (record { few = omega arith; long = refl; are = sym (ap numbersOf (c .before .before .line3 .given .1)) })
 
 pub numbers-of-spec : {M : Type 1} → statement M
 numbers-of-spec =
@@ -43,7 +49,9 @@ numbers-of-spec =
     enum-told
     enum-known-line
     enum-known-line-2
+    list-four-requires
     enum-known-line-3
+    list-four-requires-2
     returns
     returns-2
     returns-3

@@ -1,6 +1,5 @@
 -- `lines::number::put_field` meets its contract: the part that was lent comes back with the digits at its front.
 -- Assumes nothing.
-use Prim.Native.Nat.{_+_}
 use native.Mathlib.Omega.{arith}
 use denote.Ref.{now}
 use borrow.Author.Needs.{needs}

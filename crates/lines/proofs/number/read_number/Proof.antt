@@ -1,18 +1,18 @@
 -- `lines::number::read_number` meets its contract. The loop's invariant, `Passed`: the first n bytes are digits, which say value. The measure
 -- is what is left of the nineteen bytes at most.
 -- Assumes nothing.
-use mathlib.Core.Path.{_≡_, refl, sym, _∙_, ap}
+use mathlib.Core.Path.{_≡_, sym, _∙_}
 use mathlib.Core.Logic.{_⊎_, inl, inr, ⊎-elim}
-use mathlib.Core.Bool.{true, false}
+use mathlib.Core.Bool.{true}
 use mathlib.Core.List.{[]}
-use Prim.Native.Nat.{ℕ, _+_, _-_, _*_, _≤_, _<_}
+use Prim.Native.Nat.{_-_, _≤_}
 use native.Mathlib.Omega.{arith}
 use lib.ListN.{length, getD, drop}
 use denote.Ref.{now}
 use borrow.Author.Needs.{needs}
 use borrow.Author.Tests.{not-true, not-false}
 use Rattle.lines.specs.Number.{isDigit}
-use Rattle.lines.specs.Parts.{run, Digits}
+use Rattle.lines.specs.Parts.{run}
 use Rattle.lines.proofs.Decimals.{digit-low, digit-high}
 use Rattle.lines.proofs.Runs.{Passed, passed-none, passed-fits, passed-more, passed-end, ends-at, ends-with}
 use Rattle.lines.proofs.number.read_number.Statement.{statement}

@@ -1,7 +1,7 @@
 -- `lines::number::width` meets its contract. The loop's invariant: the digits counted, with those of the rest, are one more than all.
 -- Assumes nothing.
 use mathlib.Core.Path.{_≡_}
-use Prim.Native.Nat.{ℕ, _+_, _^_, _<_}
+use Prim.Native.Nat.{_+_}
 use native.Mathlib.Omega.{arith}
 use lib.ListN.{length}
 use Rattle.lines.specs.Number.{decimal}

@@ -1,6 +1,6 @@
 -- `lines::opening::begins_with` meets its contract. The loop's invariant: the bytes from i on are to be compared.
 -- Assumes nothing.
-use mathlib.Core.Path.{_≡_, refl, sym, _∙_}
+use mathlib.Core.Path.{refl, sym}
 use Prim.Native.Nat.{_-_, _≤_}
 use native.Mathlib.Omega.{arith}
 use lib.ListN.{length}

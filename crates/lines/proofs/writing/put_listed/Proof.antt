@@ -1,8 +1,5 @@
 -- `lines::writing::put_listed` meets its contract.
 -- Assumes nothing.
-use mathlib.Core.Path.{_∙_}
-use native.Mathlib.Omega.{arith}
-use denote.Ref.{now}
 use borrow.Author.Needs.{needs}
 use Rattle.lines.proofs.Listing.{listed-length, listed-text}
 use Rattle.lines.proofs.writing.put_listed.Statement.{statement}

@@ -1,8 +1,6 @@
 -- `lines::writing::text_refusal` meets its contract: the two rows in order.
 -- Assumes nothing.
 use mathlib.Core.List.{_∷_, []}
-use mathlib.Core.Path.{_≡_, ap, _∙_}
-use Prim.Native.Nat.{ℕ, _+_}
 use lib.ListN.{length}
 use lib.Dec.{ltb}
 use borrow.Author.Needs.{needs}

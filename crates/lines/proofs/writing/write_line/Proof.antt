@@ -5,8 +5,6 @@ use Prim.Native.Nat.{_+_}
 use lib.ListN.{length}
 use denote.Ref.{now}
 use borrow.Author.Needs.{needs}
-use Rattle.quantity.specs.declared.refusal.Outcome.the-variants.{Accepted}
-use Rattle.quantity.specs.Refusals.{firstOf}
 use Rattle.lines.specs.Line.{bytesOf}
 use Rattle.lines.specs.declared.line.Written.the-variants.{Next}
 use Rattle.lines.specs.Writing.{placeOf, writtenOf, bufferAfter}
