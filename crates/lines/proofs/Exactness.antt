@@ -12,7 +12,7 @@ use Rattle.quantity.specs.declared.refusal.Outcome.{Outcome}
 use Rattle.quantity.specs.declared.refusal.Outcome.the-variants.{Accepted, Refused}
 use Rattle.meter.specs.Card.{cardRows}
 use Rattle.lines.specs.Line.{sample, totals, firstField, countOf, cardOf, lineOf, bytesOf, contentRows}
-use Rattle.lines.specs.Reading.{isSame, sizeOf, firstIn, othersIn, numbersIn, areNumbers, isMisshapen, shapeRows, dueKind, lineIn, readRows, answerOf, readOf}
+use Rattle.lines.specs.Reading.{isSame, sizeOf, firstIn, othersIn, numbersIn, areNumbers, isMisshapen, shapeRows, dueKind, lineIn, lineRows, readRows, answerOf, readOf}
 use Rattle.lines.specs.RoundTrip.{Cause, no-opening, misshapen, no-number, card-row}
 use Rattle.lines.specs.declared.line.Line.{Line}
 use Rattle.lines.specs.declared.line.Line.the-variants as L
@@ -63,12 +63,17 @@ module _ (bs : List ℕ) where
   later M.SampleOrEnd = Accepted
 
   card-rows : firstOf (readRows M.Card bs) ≡ rows (misshapen-due M.Card) (areNumbers (othersIn bs)) (later M.Card)
-  unfolding readRows firstOf shapeRows rows misshapen-due later lineIn lineOf dueKind contentRows
+  unfolding readRows lineRows firstOf shapeRows rows misshapen-due later lineOf dueKind contentRows
   card-rows = refl
 
   four-rows : firstOf (readRows M.SampleOrEnd bs) ≡ rows (misshapen-due M.SampleOrEnd) (areNumbers (othersIn bs)) (later M.SampleOrEnd)
-  unfolding readRows firstOf shapeRows rows misshapen-due later
-  four-rows = refl
+  unfolding readRows lineRows firstOf shapeRows rows misshapen-due later dueKind contentRows lineOf
+  four-rows = go (isSame (firstIn bs) (firstField totals))
+    where
+      go : (t : Bool) → firstOf (lineRows (cond t totals sample) bs)
+          ≡ rows (isMisshapen (firstField (cond t totals sample)) (countOf (cond t totals sample)) bs) (areNumbers (othersIn bs)) Accepted
+      go true = refl
+      go false = refl
 
   -- a cause for each refusal
   opening-cause : (t : Bool) → isSame (take 14 bs) (bytesOf L.Opening) ≡ t → (r : ℕ) → firstOf (row 60 (not t) ∷ []) ≡ Refused r → Cause bs M.Opening r

@@ -2,7 +2,7 @@
 -- Assumes nothing.
 use mathlib.Core.Path.{_≡_, refl, sym, ap, _∙_}
 use mathlib.Core.Bool.{true, false}
-use mathlib.Core.List.{List, [], _∷_, _++_}
+use mathlib.Core.List.{List, [], _∷_, _++_, append-nil}
 use mathlib.Core.Logic.{inl, inr}
 use Prim.Native.Nat.{ℕ, _+_, _<_}
 use native.Mathlib.Omega.{arith}
@@ -17,7 +17,7 @@ use Rattle.meter.specs.Card.{fieldsOf, cardRows}
 use Rattle.meter.specs.declared.card.Card.{Card}
 use Rattle.lines.specs.Number.{decimal, decimalBy}
 use Rattle.lines.specs.Line.{Kind, opening, sample, totals, kindOf, firstField, numbersOf, afterCommas, textOf, bytesOf, contentRows, countOf, cardOf, lineOf}
-use Rattle.lines.specs.Reading.{isSame, untilEnd, sizeOf, split, fieldsIn, firstIn, numbersIn, shapeRows, dueKind, lineIn, readRows, answerOf, readOf}
+use Rattle.lines.specs.Reading.{isSame, untilEnd, sizeOf, split, fieldsIn, firstIn, numbersIn, shapeRows, dueKind, lineIn, lineRows, readRows, answerOf, readOf}
 use Rattle.lines.specs.Parts.{Lettered, NumbersRead, all, refused, FourLetter, fourKind}
 use Rattle.lines.specs.declared.fields.Numbers.{Numbers}
 use Rattle.lines.specs.declared.fields.Numbers.the-variants as A
@@ -84,7 +84,7 @@ shape-other first count bs h = simp (misshapen-first first count bs h)
 
 module _ (bs : List ℕ) where
   card-rows : firstOf (readRows M.Card bs) ≡ orElse (firstOf (shapeRows (67 ∷ []) 12 bs)) (firstOf (cardRows (cardOf (numbersIn bs))))
-  unfolding readRows firstField countOf contentRows lineIn lineOf dueKind
+  unfolding readRows lineRows firstField countOf contentRows lineOf dueKind
   card-rows = parts (shapeRows (67 ∷ []) 12 bs) (cardRows (cardOf (numbersIn bs)))
 
   pub card-refused : (r : ℕ) → firstOf (shapeRows (67 ∷ []) 12 bs) ≡ Refused r → readOf M.Card bs ≡ F.Refused r
@@ -106,10 +106,23 @@ module _ (bs : List ℕ) where
 
 -- ---- a sample's line, or the last
 
+-- a kind with no rows of its own
+abbrev NoContent : Kind → Type 0
+NoContent k = (ns : List ℕ) → contentRows (lineOf k ns) ≡ []
+
+sample-content : NoContent sample
+unfolding contentRows lineOf
+sample-content ns = refl
+
+totals-content : NoContent totals
+unfolding contentRows lineOf
+totals-content ns = refl
+
 module _ (bs : List ℕ) where
-  by-kind : (k : Kind) → dueKind M.SampleOrEnd bs ≡ k → readOf M.SampleOrEnd bs ≡ answerOf (lineOf k (numbersIn bs)) (sizeOf bs) (firstOf (shapeRows (firstField k) (countOf k) bs))
-  unfolding readOf lineIn readRows
-  by-kind k e = rw e
+  by-kind : (k : Kind) → dueKind M.SampleOrEnd bs ≡ k → NoContent k
+      → readOf M.SampleOrEnd bs ≡ answerOf (lineOf k (numbersIn bs)) (sizeOf bs) (firstOf (shapeRows (firstField k) (countOf k) bs))
+  unfolding readOf lineIn readRows lineRows
+  by-kind k e none = rw (e, none (numbersIn bs), append-nil)
 
   other-end : (getD bs 0 0 ≡ 69 → ⊥) → dueKind M.SampleOrEnd bs ≡ sample
   unfolding dueKind firstField
@@ -118,20 +131,20 @@ module _ (bs : List ℕ) where
   sample-read : getD bs 0 0 ≡ 83 → (o : Outcome) → firstOf (shapeRows (83 ∷ []) 4 bs) ≡ o
       → readOf M.SampleOrEnd bs ≡ answerOf (lineOf sample (numbersIn bs)) (sizeOf bs) o
   unfolding firstField countOf
-  sample-read h o e = by-kind sample (other-end (λ g. omega arith)) ∙ rw e
+  sample-read h o e = by-kind sample (other-end (λ g. omega arith)) sample-content ∙ rw e
 
   pub neither-read : (getD bs 0 0 ≡ 83 → ⊥) → (getD bs 0 0 ≡ 69 → ⊥) → readOf M.SampleOrEnd bs ≡ F.Refused 61
   unfolding firstField countOf answerOf
-  neither-read h g = by-kind sample (other-end g) ∙ rw (shape-other (83 ∷ []) 4 bs (other-letter 83 bs h))
+  neither-read h g = by-kind sample (other-end g) sample-content ∙ rw (shape-other (83 ∷ []) 4 bs (other-letter 83 bs h))
 
   end-read : getD bs 0 0 ≡ 69 → (o : Outcome) → firstOf (shapeRows (69 ∷ []) 4 bs) ≡ o
       → readOf M.SampleOrEnd bs ≡ answerOf (lineOf totals (numbersIn bs)) (sizeOf bs) o
   unfolding firstField countOf answerOf dueKind
   end-read h o e =
       elim (isSame (firstIn bs) (69 ∷ [])) as (λ t. isSame (firstIn bs) (69 ∷ []) ≡ t → readOf M.SampleOrEnd bs ≡ answerOf (lineOf totals (numbersIn bs)) (sizeOf bs) o) [
-        | true ↦ λ t. by-kind totals (rw t) ∙ rw e
+        | true ↦ λ t. by-kind totals (rw t) totals-content ∙ rw e
         | false ↦ λ t.
-            let s : readOf M.SampleOrEnd bs ≡ F.Refused 61 = by-kind sample (rw t) ∙ rw (shape-other (83 ∷ []) 4 bs (other-letter 83 bs (λ g. omega arith))) in
+            let s : readOf M.SampleOrEnd bs ≡ F.Refused 61 = by-kind sample (rw t) sample-content ∙ rw (shape-other (83 ∷ []) 4 bs (other-letter 83 bs (λ g. omega arith))) in
             let r : o ≡ Refused 61 = sym e ∙ shape-other (69 ∷ []) 4 bs t in
             s ∙ rw r
       ] refl

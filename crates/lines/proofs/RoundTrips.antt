@@ -18,7 +18,7 @@ use Rattle.meter.specs.Card.{cardRows}
 use Rattle.meter.specs.declared.card.Card.{Card}
 use Rattle.lines.specs.Number.{decimal, isLong}
 use Rattle.lines.specs.Line.{Kind, opening, card, sample, totals, kindOf, firstField, numbersOf, afterCommas, textOf, bytesOf, contentRows, countOf, lineOf}
-use Rattle.lines.specs.Reading.{isSame, sizeOf, fieldsIn, firstIn, numbersIn, shapeRows, dueKind, lineIn, readRows, answerOf, readOf, restOf}
+use Rattle.lines.specs.Reading.{isSame, sizeOf, fieldsIn, firstIn, numbersIn, shapeRows, dueKind, lineIn, lineRows, readRows, answerOf, readOf, restOf}
 use Rattle.lines.specs.Writing.{someLong, writeRows, placeOf, writtenOf, putAt, bufferAfter}
 use Rattle.lines.specs.Parts.{FourLetter, fourKind}
 use Rattle.lines.specs.RoundTrip.{toldOf, ReadsBack, WritesBack}
@@ -100,7 +100,7 @@ unfolding putAt
 put-from buf at text h = drop-at (take at buf) (text ++ drop (at + length text) buf) at (length-take-le at buf h)
 
 -- THEOREM: writing, then reading
-pub written-then-read : (buf : List ℕ) (at : ℕ) (line : Line) (next : ℕ) → writtenOf (length buf) at line ≡ W.Next next → ReadsBack buf at line next
+pub written-then-read : (buf : List ℕ) (at : ℕ) (line : Line) (next : ℕ) → writtenOf (length buf) at line ≡ W.Next next → ReadsBack (bufferAfter buf at line (W.Next next)) at line next
 unfolding writtenOf bufferAfter restOf
 written-then-read buf at line next e =
     let p = next-place next (at + length (bytesOf line)) (firstOf (writeRows (length buf) at line)) e in
@@ -108,9 +108,14 @@ written-then-read buf at line next e =
     let after : drop at (putAt buf at (bytesOf line)) ≡ bytesOf line ++ drop (at + length (bytesOf line)) buf = put-from buf at (bytesOf line) (w .within) in
     let size : next - at ≡ length (bytesOf line) = omega (arith, p .1) in
     let place : at + (next - at) ≡ next = omega (arith, p .1) in
+    let again : readOf (toldOf line) (drop at (putAt buf at (bytesOf line))) ≡ F.Read line (next - at) =
+    rw (after, size) (reads-line line (drop (at + length (bytesOf line)) buf) (w .short) (w .content)) in
     record {
-      answer = rw (after, size) (reads-line line (drop (at + length (bytesOf line)) buf) (w .short) (w .content));
-      rest = drop-drop (next - at) at (putAt buf at (bytesOf line)) ∙ ap (λ (i : ℕ). drop i (putAt buf at (bytesOf line))) place;
+      answer = again;
+      rest =
+          ap (restOf (drop at (putAt buf at (bytesOf line)))) again
+          ∙ drop-drop (next - at) at (putAt buf at (bytesOf line))
+          ∙ ap (λ (i : ℕ). drop i (putAt buf at (bytesOf line))) place;
     }
 
 -- ---- what is read is what is written
@@ -160,37 +165,32 @@ module _ (may : MayCome) (bs : List ℕ) (k : Kind) (ns : List ℕ) where
         refused-only = refused-place-or-room (lineOf k ns) (ap someLong e ∙ h) g;
       }
 
--- a kind that a first field and numbers can name
-shaped : (may : MayCome) (bs : List ℕ) (k : Kind) → (k ≡ opening → ⊥) → toldOf (lineOf k (numbersIn bs)) ≡ may
-    → firstOf (shapeRows (firstField k) (countOf k) bs) ≡ Accepted → NoneApplies (contentRows (lineOf k (numbersIn bs)))
-    → WritesBack may bs (lineOf k (numbersIn bs)) (sizeOf bs)
-shaped may bs k other t e g =
-    let l = shape-forth (firstField k) (countOf k) bs e in
-    writes-kind may bs k (numbersIn bs) t (numbers-line k (numbersIn bs) (λ o. absurd (other o)) (l .counted)) (l .bytes) (l .short) g
-
 writes-opening : (bs : List ℕ) → firstOf (readRows M.Opening bs) ≡ Accepted → WritesBack M.Opening bs L.Opening (sizeOf bs)
 unfolding readRows lineOf numbersOf toldOf contentRows someLong isLong
 writes-opening bs e =
     let h : isSame (take 14 bs) (bytesOf L.Opening) ≡ true = not-false _ (none-applies (readRows M.Opening bs) e .0) in
     writes-kind M.Opening bs opening (1 ∷ []) refl refl (rw (opening-sized bs h) (opening-front bs h)) refl tt
 
-writes-card : (bs : List ℕ) → firstOf (readRows M.Card bs) ≡ Accepted → WritesBack M.Card bs (lineOf card (numbersIn bs)) (sizeOf bs)
-unfolding readRows lineIn dueKind toldOf lineOf
-writes-card bs e =
-    let n = none-of-parts (shapeRows (firstField card) (countOf card) bs) (contentRows (lineIn M.Card bs)) (none-applies (readRows M.Card bs) e) in
-    shaped M.Card bs card (λ o. let z : _≡_ {A = ℕ} 0 1 = cc o in omega arith) refl (no-refusal (shapeRows (firstField card) (countOf card) bs) (n .0)) (n .1)
+-- a line of a kind that is due
+writes-due : (may : MayCome) (bs : List ℕ) (k : Kind) → (k ≡ opening → ⊥) → toldOf (lineOf k (numbersIn bs)) ≡ may
+    → firstOf (lineRows k bs) ≡ Accepted → WritesBack may bs (lineOf k (numbersIn bs)) (sizeOf bs)
+unfolding lineRows
+writes-due may bs k other t e =
+    let n = none-of-parts (shapeRows (firstField k) (countOf k) bs) (contentRows (lineOf k (numbersIn bs))) (none-applies (lineRows k bs) e) in
+    let l = shape-forth (firstField k) (countOf k) bs (no-refusal (shapeRows (firstField k) (countOf k) bs) (n .0)) in
+    writes-kind may bs k (numbersIn bs) t (numbers-line k (numbersIn bs) (λ o. absurd (other o)) (l .counted)) (l .bytes) (l .short) (n .1)
 
-writes-four : (bs : List ℕ) (t : Bool) → firstOf (shapeRows (firstField (cond t totals sample)) (countOf (cond t totals sample)) bs) ≡ Accepted
+writes-four : (bs : List ℕ) (t : Bool) → firstOf (lineRows (cond t totals sample) bs) ≡ Accepted
     → WritesBack M.SampleOrEnd bs (lineOf (cond t totals sample) (numbersIn bs)) (sizeOf bs)
-unfolding toldOf lineOf contentRows
-writes-four bs true e = shaped M.SampleOrEnd bs totals (λ o. let z : _≡_ {A = ℕ} 0 1 = cc o in omega arith) refl e tt
-writes-four bs false e = shaped M.SampleOrEnd bs sample (λ o. let z : _≡_ {A = ℕ} 0 1 = cc o in omega arith) refl e tt
+unfolding toldOf lineOf
+writes-four bs true e = writes-due M.SampleOrEnd bs totals (λ o. let z : _≡_ {A = ℕ} 0 1 = cc o in omega arith) refl e
+writes-four bs false e = writes-due M.SampleOrEnd bs sample (λ o. let z : _≡_ {A = ℕ} 0 1 = cc o in omega arith) refl e
 
 -- what the rows accept
 writes : (may : MayCome) (bs : List ℕ) → firstOf (readRows may bs) ≡ Accepted → WritesBack may bs (lineIn may bs) (sizeOf bs)
-unfolding lineIn dueKind lineOf readRows
+unfolding lineIn dueKind lineOf readRows toldOf
 writes M.Opening bs e = writes-opening bs e
-writes M.Card bs e = writes-card bs e
+writes M.Card bs e = writes-due M.Card bs card (λ o. let z : _≡_ {A = ℕ} 0 1 = cc o in omega arith) refl e
 writes M.SampleOrEnd bs e = writes-four bs (isSame (firstIn bs) (firstField totals)) e
 
 -- THEOREM: reading, then writing

@@ -12,7 +12,6 @@ use lib.Dec.{eqb}
 use lib.ListN.{length, getD, take, drop, length-take, drop-of-length-le}
 use lib.Seq.{drop-cons, take-suc, take-at, take-all, length-take-le}
 use borrow.Author.Tests.{le-leb, lt-leb, eq-eqb, ne-eqb}
-use Rattle.quantity.proofs.Conditions.{both}
 use Rattle.lines.specs.Number.{isDigit, areDigits, valueOf, isNumber}
 use Rattle.lines.specs.Parts.{run, numberAt, Digits}
 use Rattle.lines.specs.declared.number.Field.the-variants.{Number, Missing}

@@ -51,7 +51,7 @@ textOf first numbers = first ++ (afterCommas (map decimal numbers) ++ (10 ∷ []
 unfoldable pub bytesOf : Line → List ℕ
 bytesOf line = textOf (firstField (kindOf line)) (numbersOf line)
 
--- the row of a line's own content, in reader and writer: "card numbers"
+-- the rows of a line's own content, in reader and writer: "card numbers"
 unfoldable pub contentRows : Line → List Row
 contentRows L.Opening = []
 contentRows (L.Card c) = cardRows c
@@ -65,7 +65,7 @@ countOf card = 12
 countOf sample = 4
 countOf totals = 4
 
--- the line of a kind with given numbers, as many as it has (`lines-numbers` and `numbers-line` of proofs/LineLaws.antt)
+-- the line of a kind with given numbers, as many as it has; `line-of` and `numbers-line` of proofs/LineLaws.antt tie it to `numbersOf`
 unfoldable pub cardOf : List ℕ → Card
 cardOf ns = record {
   serial = getD ns 0 0;

@@ -80,11 +80,15 @@ dueKind M.SampleOrEnd bs = cond (isSame (firstIn bs) (firstField totals)) totals
 unfoldable pub lineIn : MayCome → List ℕ → Line
 lineIn may bs = lineOf (dueKind may bs) (numbersIn bs)
 
--- "60 opening": anything but the opening's bytes; and for the other kinds "61 ..; 62 ..; then card numbers"
+-- "61 ..; 62 ..; then card numbers", where a line of a kind is due
+unfoldable pub lineRows : Kind → List ℕ → List Row
+lineRows k bs = shapeRows (firstField k) (countOf k) bs ++ contentRows (lineOf k (numbersIn bs))
+
+-- "60 opening" is anything but the opening's bytes
 unfoldable pub readRows : MayCome → List ℕ → List Row
 readRows M.Opening bs = row 60 (not (isSame (take 14 bs) (bytesOf L.Opening))) ∷ []
-readRows M.Card bs = shapeRows (firstField card) (countOf card) bs ++ contentRows (lineIn M.Card bs)
-readRows M.SampleOrEnd bs = shapeRows (firstField (dueKind M.SampleOrEnd bs)) (countOf (dueKind M.SampleOrEnd bs)) bs
+readRows M.Card bs = lineRows (dueKind M.Card bs) bs
+readRows M.SampleOrEnd bs = lineRows (dueKind M.SampleOrEnd bs) bs
 
 -- what the reader answers: the line and how many bytes it takes, or the first row's number
 unfoldable pub answerOf : Line → ℕ → Outcome → Front

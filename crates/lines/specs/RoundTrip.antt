@@ -11,7 +11,7 @@ use Rattle.quantity.specs.declared.refusal.Outcome.the-variants as O
 use Rattle.meter.specs.Card.{cardRows}
 use Rattle.lines.specs.Line.{firstField, countOf, cardOf, numbersOf, bytesOf, contentRows}
 use Rattle.lines.specs.Reading.{isSame, othersIn, numbersIn, areNumbers, isMisshapen, dueKind, readOf, restOf}
-use Rattle.lines.specs.Writing.{someLong, writtenOf, bufferAfter}
+use Rattle.lines.specs.Writing.{someLong, writtenOf}
 use Rattle.lines.specs.declared.line.Line.{Line}
 use Rattle.lines.specs.declared.line.Line.the-variants as L
 use Rattle.lines.specs.declared.line.MayCome.{MayCome}
@@ -26,11 +26,11 @@ toldOf (L.Card c) = M.Card
 toldOf (L.Sample s) = M.SampleOrEnd
 toldOf (L.End t) = M.SampleOrEnd
 
--- Writing, then reading. Where the writer answered the place next, the buffer read from the old place on, told that kind, gives the line and
--- the buffer after next.
+-- Writing, then reading. Where the writer answered the place next and left the buffer so, what stands from the old place on, read by a reader
+-- told that kind, gives the line and the buffer after next.
 pub record ReadsBack (buf : List ℕ) (at : ℕ) (line : Line) (next : ℕ) : Type 0 where
-  pub answer : readOf (toldOf line) (drop at (bufferAfter buf at line (W.Next next))) ≡ F.Read line (next - at)
-  pub rest : restOf (drop at (bufferAfter buf at line (W.Next next))) (F.Read line (next - at)) ≡ drop next (bufferAfter buf at line (W.Next next))
+  pub answer : readOf (toldOf line) (drop at buf) ≡ F.Read line (next - at)
+  pub rest : restOf (drop at buf) (readOf (toldOf line) (drop at buf)) ≡ drop next buf
 
 -- Reading, then writing. Where the reader answered a line and a count of bytes, the line is of a kind that may come, its bytes are those, the
 -- writer refuses neither its content nor its numbers, and so refuses it only for the buffer's sake.

@@ -1,6 +1,8 @@
 // Runs outside vectors: repeats each line of its input with the answer behind it. The file `stdout` beside src/ has
 // the same lines with the answers as the sources name them in the lines that begin with '#'.
 mod answers;
+mod archives;
+mod hexadecimal;
 mod meters;
 mod temperatures;
 mod text;
@@ -9,6 +11,7 @@ mod waters;
 
 use libc::STDIN_FILENO;
 use libc::STDOUT_FILENO;
+use lines::MayCome;
 
 fn main() {
     let mut space = [0u8; 262144];
@@ -39,6 +42,10 @@ fn answer(line: &[u8]) {
             b'F' => meters::of_card(line),
             b'M' => meters::of_state(line),
             b'V' => verdicts::of_point(line),
+            b'O' => archives::of_line(line, MayCome::Opening),
+            b'C' => archives::of_line(line, MayCome::Card),
+            b'S' => archives::of_line(line, MayCome::SampleOrEnd),
+            b'A' => archives::of_file(line),
             _ => {}
         }
     }

@@ -1,0 +1,42 @@
+// Bytes given in hexadecimal.
+ghost use Prim.Native.Nat.{_≤_};
+ghost use lib.ListN.{length};
+
+// Puts the bytes behind a line's letter and comma at the front of buf, and answers how many they are.
+pub(crate) fn bytes_of(line: &[u8], buf: &mut [u8]) -> usize
+    ensures { λ r. ⌜ r ≤ length (now (buf .exit)) ⌝ }
+{
+    let mut n: usize = 0;
+    let mut i: usize = 2;
+    while i < line.len() {
+        if n == buf.len() {
+            return n;
+        }
+        if i + 1 == line.len() {
+            return n;
+        }
+        buf[n] = digit(line[i]) * 16 + digit(line[i + 1]);
+        n += 1;
+        i += 2;
+    }
+    n
+}
+
+// The value of a digit, small letters for ten to fifteen; 0 for any other byte.
+fn digit(byte: u8) -> u8
+    ensures { λ r. ⌜ r ≤ 15 ⌝ }
+{
+    if byte < b'0' {
+        return 0;
+    }
+    if byte <= b'9' {
+        return byte - b'0';
+    }
+    if byte < b'a' {
+        return 0;
+    }
+    if byte <= b'f' {
+        return byte - b'a' + 10;
+    }
+    0
+}
