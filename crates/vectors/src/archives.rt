@@ -1,6 +1,7 @@
 // Lines and whole archives, given as hexadecimal bytes.
 use crate::answers::put;
 use crate::hexadecimal::bytes_of;
+use crate::text::number;
 use libc::STDOUT_FILENO;
 use lines::Front;
 use lines::Line;
@@ -14,6 +15,17 @@ pub(crate) fn of_file(line: &[u8]) {
     let n = bytes_of(line, &mut space);
     let written = archive::report(&space[..n], 65536, &mut out);
     put_front(&out, written);
+}
+
+// `N,` a number up to 65537: the output line of that many zero bytes, with the program's limit.
+pub(crate) fn of_zeros(line: &[u8]) {
+    let space = [0u8; 65537];
+    let mut out = [0u8; 128];
+    let n = number(line, 1) as usize;
+    if n <= 65537 {
+        let written = archive::report(&space[..n], 65536, &mut out);
+        put_front(&out, written);
+    }
 }
 
 // `O,`, `C,` or `S,` the bytes, where the opening, the card's line, or a sample's line or the last may come: the line as the writer puts it

@@ -46,6 +46,7 @@ fn answer(line: &[u8]) {
             b'C' => archives::of_line(line, MayCome::Card),
             b'S' => archives::of_line(line, MayCome::SampleOrEnd),
             b'A' => archives::of_file(line),
+            b'N' => archives::of_zeros(line),
             _ => {}
         }
     }
