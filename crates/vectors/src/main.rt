@@ -8,6 +8,7 @@ mod temperatures;
 mod text;
 mod verdicts;
 mod waters;
+mod writers;
 
 use libc::STDIN_FILENO;
 use libc::STDOUT_FILENO;
@@ -47,6 +48,7 @@ fn answer(line: &[u8]) {
             b'S' => archives::of_line(line, MayCome::SampleOrEnd),
             b'A' => archives::of_file(line),
             b'N' => archives::of_zeros(line),
+            b'L' => writers::of_values(line),
             _ => {}
         }
     }
