@@ -5,13 +5,14 @@ use lines::Report;
 use lines::Written;
 ghost use mathlib.Core.Path.{_≡_};
 ghost use lib.ListN.{length};
-ghost use Rattle.lines.specs.Report.{reportText, placedOf, bufferWith};
+ghost use Rattle.lines.specs.Report.{reportText, placedOf};
+ghost use Rattle.lines.specs.Writing.{bufferAfter};
 ghost use Rattle.archive.specs.Report.{ofAudited, reportOf};
 
 // Audits the bytes and puts the whole output line at the front of buf: 68, as line 0, exactly when they are more than limit.
 pub fn report(bytes: &[u8], limit: usize, buf: &mut [u8]) -> Written
     ensures { λ r. ⌜ r ≡ placedOf (length (now (buf .entry))) (reportText (reportOf limit (now (bytes .entry)))) ⌝ }
-    ensures { λ r. ⌜ now (buf .exit) ≡ bufferWith (now (buf .entry)) (reportText (reportOf limit (now (bytes .entry)))) r ⌝ }
+    ensures { λ r. ⌜ now (buf .exit) ≡ bufferAfter (now (buf .entry)) 0 (reportText (reportOf limit (now (bytes .entry)))) r ⌝ }
 {
     let what = found(bytes, limit);
     lines::write_report(buf, what)

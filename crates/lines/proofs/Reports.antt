@@ -10,6 +10,8 @@ use lib.Dec.{ltb}
 use borrow.Author.Tests.{lt-ltb, le-ltb, ltb-true, ltb-false}
 use Rattle.lines.specs.Number.{decimal}
 use Rattle.lines.specs.Line.{afterCommas, textOf}
+use Rattle.quantity.specs.Refusals.{firstOf}
+use Rattle.lines.specs.Writing.{placeOf}
 use Rattle.lines.specs.Report.{placedOf}
 use Rattle.lines.specs.declared.line.Written.the-variants as W
 
@@ -20,11 +22,11 @@ text-size letter ns =
     omega (arith, l)
 
 pub no-room : (size : ℕ) (text : List ℕ) → size < length text → placedOf size text ≡ W.Refused 66
-unfolding placedOf
+unfolding placedOf placeOf firstOf
 no-room size text h = simp (lt-ltb size (length text) h)
 
 pub room : (size : ℕ) (text : List ℕ) → length text ≤ size → placedOf size text ≡ W.Next (length text)
-unfolding placedOf
+unfolding placedOf placeOf firstOf
 room size text h = simp (le-ltb size (length text) h)
 
 -- a place counted from the front

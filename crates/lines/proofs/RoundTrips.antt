@@ -100,7 +100,7 @@ unfolding putAt
 put-from buf at text h = drop-at (take at buf) (text ++ drop (at + length text) buf) at (length-take-le at buf h)
 
 -- THEOREM: writing, then reading
-pub written-then-read : (buf : List ℕ) (at : ℕ) (line : Line) (next : ℕ) → writtenOf (length buf) at line ≡ W.Next next → ReadsBack (bufferAfter buf at line (W.Next next)) at line next
+pub written-then-read : (buf : List ℕ) (at : ℕ) (line : Line) (next : ℕ) → writtenOf (length buf) at line ≡ W.Next next → ReadsBack (bufferAfter buf at (bytesOf line) (W.Next next)) at line next
 unfolding writtenOf bufferAfter restOf
 written-then-read buf at line next e =
     let p = next-place next (at + length (bytesOf line)) (firstOf (writeRows (length buf) at line)) e in

@@ -38,7 +38,7 @@ writtenOf size at line = placeOf (at + length (bytesOf line)) (firstOf (writeRow
 unfoldable pub putAt : List ℕ → ℕ → List ℕ → List ℕ
 putAt buf at text = take at buf ++ (text ++ drop (at + length text) buf)
 
--- what the buffer holds afterwards: after a refusal, what it held
-unfoldable pub bufferAfter : List ℕ → ℕ → Line → Written → List ℕ
-bufferAfter buf at line (W.Next next) = putAt buf at (bytesOf line)
-bufferAfter buf at line (W.Refused r) = buf
+-- what the buffer holds after a text was to be put there: after a refusal, what it held
+unfoldable pub bufferAfter : List ℕ → ℕ → List ℕ → Written → List ℕ
+bufferAfter buf at text (W.Next next) = putAt buf at text
+bufferAfter buf at text (W.Refused r) = buf

@@ -8,7 +8,8 @@ ghost use mathlib.Core.List.{_∷_, []};
 ghost use Prim.Native.Nat.{_≤_};
 ghost use lib.ListN.{length};
 ghost use Rattle.lines.specs.Line.{textOf};
-ghost use Rattle.lines.specs.Report.{reportText, placedOf, bufferWith};
+ghost use Rattle.lines.specs.Report.{reportText, placedOf};
+ghost use Rattle.lines.specs.Writing.{bufferAfter};
 
 // What an audit found: the state that the file ends with, or the first refusal and its line.
 pub enum Report {
@@ -28,7 +29,7 @@ pub enum Report {
 // Puts the report's line at the front of buf, and answers the place after it; 66 where buf is too short.
 pub fn write_report(buf: &mut [u8], report: Report) -> Written
     ensures { λ r. ⌜ r ≡ placedOf (length (now (buf .entry))) (reportText report) ⌝ }
-    ensures { λ r. ⌜ now (buf .exit) ≡ bufferWith (now (buf .entry)) (reportText report) r ⌝ }
+    ensures { λ r. ⌜ now (buf .exit) ≡ bufferAfter (now (buf .entry)) 0 (reportText report) r ⌝ }
 {
     match report {
         Report::Register {
@@ -46,7 +47,7 @@ pub fn write_report(buf: &mut [u8], report: Report) -> Written
 fn put_within(buf: &mut [u8], letter: u8, numbers: &[u64]) -> Written
     requires { ⌜ length (now numbers) ≤ 12 ⌝ }
     ensures { λ r. ⌜ r ≡ placedOf (length (now (buf .entry))) (textOf (letter ∷ []) (now (numbers .entry))) ⌝ }
-    ensures { λ r. ⌜ now (buf .exit) ≡ bufferWith (now (buf .entry)) (textOf (letter ∷ []) (now (numbers .entry))) r ⌝ }
+    ensures { λ r. ⌜ now (buf .exit) ≡ bufferAfter (now (buf .entry)) 0 (textOf (letter ∷ []) (now (numbers .entry))) r ⌝ }
 {
     let size = fields_length(numbers) + 2;
     if buf.len() < size {

@@ -21,7 +21,7 @@ ghost use Rattle.lines.specs.Writing.{someLong, writeRows, writtenOf, pu
 // Puts line into buf from the place at on, and answers the next place.
 pub fn write_line(buf: &mut [u8], at: usize, line: Line) -> Written
     ensures { λ r. ⌜ r ≡ writtenOf (length (now (buf .entry))) at line ⌝ }
-    ensures { λ r. ⌜ now (buf .exit) ≡ bufferAfter (now (buf .entry)) at line r ⌝ }
+    ensures { λ r. ⌜ now (buf .exit) ≡ bufferAfter (now (buf .entry)) at (bytesOf line) r ⌝ }
 {
     let refusal = write_refusal(buf.len(), at, line);
     match refusal {

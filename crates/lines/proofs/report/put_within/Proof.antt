@@ -7,7 +7,7 @@ use lib.ListN.{length}
 use denote.Ref.{now}
 use borrow.Author.Needs.{needs}
 use Rattle.lines.specs.Line.{textOf}
-use Rattle.lines.specs.Report.{bufferWith}
+use Rattle.lines.specs.Writing.{bufferAfter}
 use Rattle.lines.specs.declared.line.Written.the-variants.{Next}
 use Rattle.lines.proofs.Reports.{text-size, no-room, room, from-front}
 use Rattle.lines.proofs.report.put_within.Statement.{statement}
@@ -20,7 +20,7 @@ add-size : tie.Need-add-size
 add-size c = search needs
 
 returns : tie.Need-returns
-unfolding bufferWith
+unfolding bufferAfter
 returns c =
     let a = c .before .before .before .before .args in
     let s = text-size (a .letter) (now (a .numbers)) in
@@ -36,7 +36,7 @@ same-length : tie.Need-same-length
 same-length c = search needs
 
 returns-2 : tie.Need-returns-2
-unfolding bufferWith
+unfolding bufferAfter
 returns-2 c =
     let a = c .before .before .before .before .before .before .before .before .args in
     let s = text-size (a .letter) (now (a .numbers)) in
