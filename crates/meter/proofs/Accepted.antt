@@ -24,9 +24,9 @@ use Rattle.platinum.specs.Temperature.{temperatureOf}
 use Rattle.platinum.proofs.Answer.{at-most}
 use Rattle.meter.specs.Card.{cardRows}
 use Rattle.meter.specs.State.{stateRows, largestRegister, largestVolume, largestCount}
-use Rattle.meter.specs.Sample.{volumeOf, supplyOf, returnOf, temperatureOrMissing, ts, tr, heatOf}
+use Rattle.meter.specs.Sample.{volumeOf, supplyOf, returnOf, temperatureOrMissing, ts, tr, sampleHeat}
 use Rattle.meter.specs.Step.{countRows, readingRows, rangeRows, limitRows}
-use Rattle.water.specs.Heat.{floored}
+use Rattle.quantity.specs.Fractions.{floored}
 use Rattle.meter.specs.declared.card.Card.{Card}
 use Rattle.meter.specs.declared.state.Meter.{Meter}
 use Rattle.meter.specs.declared.sample.Sample.{Sample}
@@ -128,7 +128,7 @@ accepted-pair c s h =
     record { warmer = warmer; apart = above _ _ _ warmer (ltb-false _ _ (h36 .1 .0)) }
 
 pub record AcceptedLimits (m : Meter) (s : Sample) : Type 0 where
-  pub register : m .register + floored (heatOf (m .card) s) ≤ largestRegister
+  pub register : m .register + floored (sampleHeat (m .card) s) ≤ largestRegister
   pub volume : m .volume + volumeOf (m .card) s ≤ largestVolume
 
 pub accepted-limits : (m : Meter) (s : Sample) → NoneApplies (limitRows m s) → AcceptedLimits m s

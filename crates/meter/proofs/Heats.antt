@@ -5,10 +5,11 @@ use Prim.Native.Nat.{ℕ}
 use native.Mathlib.Omega.{arith}
 use Rattle.quantity.specs.declared.units.Temperature.{Temperature}
 use Rattle.water.specs.Table.{water}
-use Rattle.water.specs.Heat as Water
+use Rattle.quantity.specs.Fractions.{floored}
+use Rattle.water.specs.Heat.{heatOf}
 use Rattle.water.proofs.Accepted.{heat-accepted}
 use Rattle.water.specs.declared.answers.Heat.the-variants.{Millijoules, Refused}
-use Rattle.meter.specs.Sample.{volumeOf, ts, tr, heatOf}
+use Rattle.meter.specs.Sample.{volumeOf, ts, tr, sampleHeat}
 use Rattle.meter.specs.Stages.{Ranged}
 use Rattle.meter.specs.declared.state.Meter.{Meter}
 use Rattle.meter.specs.declared.sample.Sample.{Sample}
@@ -22,8 +23,8 @@ never-refused n x e = let z : _≡_ {A = ℕ} 0 1 = cc in omega arith
 
 -- the water's operation refuses nothing of an accepted sample: it answers the floor of the sample's exact heat
 pub of-sample : (m : Meter) (s : Sample) (volume : ℕ) (supply returned : Temperature) → Ranged m s volume supply returned →
-    Water.heatOf water volume supply returned (m .card .place) ≡ Millijoules (Water.floored (heatOf (m .card) s))
-unfolding heatOf
+    heatOf water volume supply returned (m .card .place) ≡ Millijoules (floored (sampleHeat (m .card) s))
+unfolding sampleHeat
 of-sample m s volume supply returned h =
     let c = m .card in
     let p = h .pair in

@@ -12,16 +12,18 @@ use Rattle.quantity.specs.Refusals.{firstOf}
 use Rattle.quantity.specs.declared.refusal.Outcome.{Outcome}
 use Rattle.quantity.specs.declared.refusal.Outcome.the-variants.{Accepted, Refused}
 use Rattle.water.specs.Table.{water}
-use Rattle.water.specs.Heat.{ExactHeat, exactHeat}
+use Rattle.quantity.specs.Fractions.{IsFraction, plus}
+use Rattle.quantity.specs.declared.fraction.Fraction.{Fraction}
+use Rattle.water.specs.Heat.{exactHeat}
 use Rattle.water.proofs.Bounds.{water-bounded}
 use Rattle.water.proofs.ExactHeats as Exact
 use Rattle.meter.specs.Card.{cardRows}
 use Rattle.meter.specs.State.{freshOf, freshAnswer, zeros}
-use Rattle.meter.specs.Sample.{volumeOf, hasVolume, ts, tr, heatOf}
+use Rattle.meter.specs.Sample.{volumeOf, hasVolume, ts, tr, sampleHeat}
 use Rattle.meter.specs.Step.{accepting, refusing, stepOf}
-use Rattle.meter.specs.Sum.{Mark, Register, nothing, plus, sumFrom, allowanceFrom, Bounded}
+use Rattle.meter.specs.Sum.{Mark, heatSamples, nothing, sumFrom, allowanceFrom, WithinBounds}
 use Rattle.meter.specs.Calls.{Calls, none, step, isAccepted, markOf}
-use Rattle.meter.specs.Register.{heatRegister, RegisterBounds}
+use Rattle.meter.specs.Register.{RegisterBounds}
 use Rattle.meter.specs.declared.card.Card.{Card}
 use Rattle.meter.specs.declared.state.Meter.{Meter}
 use Rattle.meter.specs.declared.state.FreshMeter.{FreshMeter}
@@ -32,19 +34,19 @@ use Rattle.meter.proofs.Answers.{NoRowRefuses, Answers, accepts, refuse
 use Rattle.meter.proofs.Accepted.{accepted-card, accepted-pair, temperature-at-most}
 
 -- the exact heat's lower number is above zero, also where a sample has no temperature
-pub lower-above-zero : (c : Card) (s : Sample) → 0 < heatOf c s .lower
-unfolding heatOf
-lower-above-zero c s = Exact.lower-above-zero water water-bounded _ _ _ _
+pub is-fraction : (c : Card) (s : Sample) → IsFraction (sampleHeat c s)
+unfolding sampleHeat
+is-fraction c s = Exact.is-fraction water water-bounded _ _ _ _
 
 -- the exact heat of an accepted sample
-heat-bounds : (m : Meter) (s : Sample) → NoRowRefuses m s → HeatBounds (hasVolume (m .card) s) (heatOf (m .card) s)
-unfolding heatOf
+heat-bounds : (m : Meter) (s : Sample) → NoRowRefuses m s → HeatBounds (hasVolume (m .card) s) (sampleHeat (m .card) s)
+unfolding sampleHeat
 heat-bounds m s h =
     let c = m .card in
     let card = accepted-card c (h .card) in
     let pair = accepted-pair c s (h .range) in
     record {
-      fraction = lower-above-zero c s;
+      is-fraction = is-fraction c s;
       none = λ e.
           let no-volume : volumeOf c s ≡ 0 = omega (arith, ltb-false 0 (volumeOf c s) e) in
           rw no-volume (Exact.nothing water _ _ _);
@@ -53,13 +55,13 @@ heat-bounds m s h =
     }
 
 -- the bounds after one call more
-abbrev After : Card → Sample → Stepped → ℕ → ExactHeat → Type 0
+abbrev After : Card → Sample → Stepped → ℕ → Fraction → Type 0
 After c s a n sum =
-    let r = heatRegister c in
+    let r = heatSamples c in
     let k = markOf s a in
-    Bounded (a .meter .register) (cond (r .own k && r .hasVolume s) (n + 1) n) (cond (r .own k) (plus sum (r .heat s)) sum)
+    WithinBounds (a .meter .register) (cond (r .own k && r .has-volume s) (n + 1) n) (cond (r .own k) (plus sum (r .heat s)) sum)
 
-one : (m : Meter) (s : Sample) (a : Stepped) (n : ℕ) (sum : ExactHeat) → Answers m s a → Bounded (m .register) n sum → After (m .card) s a n sum
+one : (m : Meter) (s : Sample) (a : Stepped) (n : ℕ) (sum : Fraction) → Answers m s a → WithinBounds (m .register) n sum → After (m .card) s a n sum
 one m s a n sum (accepts h) b = keep _ _ _ _ _ (heat-bounds m s h) b
 one m s a n sum (refuses-sample x e f) b = b
 one m s a n sum (refuses-before x e) b = b
@@ -70,8 +72,8 @@ same-card m s a (accepts h) = refl
 same-card m s a (refuses-sample x e f) = refl
 same-card m s a (refuses-before x e) = refl
 
-from : {m z : Meter} {ks : List Mark} (c : Card) (n : ℕ) (sum : ExactHeat) → m .card ≡ c → Bounded (m .register) n sum → Calls m ks z →
-    Bounded (z .register) (allowanceFrom (heatRegister c) n ks) (sumFrom (heatRegister c) sum ks)
+from : {m z : Meter} {ks : List Mark} (c : Card) (n : ℕ) (sum : Fraction) → m .card ≡ c → WithinBounds (m .register) n sum → Calls m ks z →
+    WithinBounds (z .register) (allowanceFrom (heatSamples c) n ks) (sumFrom (heatSamples c) sum ks)
 from c n sum e b none = b
 from c n sum e b (step {m = m} s a p rest) =
     let h = answered m s a p in
@@ -98,12 +100,14 @@ fresh-made c e = ap (λ (o : Outcome). freshAnswer o (zeros c)) e
 pub register : RegisterBounds
 register c m e ks z calls =
     let m-is = fresh-zeros c m e .1 in
-    from c 0 nothing (sym (ap (λ (x : Meter). x .card) m-is)) (subst (λ (x : Meter). Bounded (x .register) 0 nothing) m-is start) calls
+    from c 0 nothing (sym (ap (λ (x : Meter). x .card) m-is)) (subst (λ (x : Meter). WithinBounds (x .register) 0 nothing) m-is start) calls
 
 -- an accepted sample with a volume raises the register
 pub raises : (m : Meter) (s : Sample) → isAccepted (stepOf m s .outcome) ≡ true → hasVolume (m .card) s ≡ true → m .register < stepOf m s .meter .register
 raises m s e v =
-    let h = accepted-exactly m s .0 e in
-    let w = heat-bounds m s h in
-    let at-least = le-div-iff-mul-le (w .fraction) .1 (w .least v) in
-    subst (λ (a : Stepped). m .register < a .meter .register) (sym (not-refused m s h)) (omega (arith, at-least))
+    let none-refuses = accepted-exactly m s .0 e in
+    let w = heat-bounds m s none-refuses in
+    let h = sampleHeat (m .card) s in
+    let least : 2000 * h .denominator ≤ h .numerator = omega (arith, w .least v) in
+    let at-least = le-div-iff-mul-le (w .is-fraction) .1 least in
+    subst (λ (a : Stepped). m .register < a .meter .register) (sym (not-refused m s none-refuses)) (omega (arith, at-least))

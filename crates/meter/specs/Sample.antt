@@ -8,7 +8,8 @@ use Rattle.platinum.specs.Temperature.{temperatureOf}
 use Rattle.platinum.specs.declared.reading.Measured.{Measured}
 use Rattle.water.specs.Table.{water}
 use Rattle.water.specs.Pair.{atPlace}
-use Rattle.water.specs.Heat.{ExactHeat, exactHeat}
+use Rattle.quantity.specs.declared.fraction.Fraction.{Fraction}
+use Rattle.water.specs.Heat.{exactHeat}
 use Rattle.meter.specs.declared.card.Card.{Card}
 use Rattle.meter.specs.declared.sample.Sample.{Sample}
 
@@ -45,5 +46,5 @@ abbrev pub tr : Card → Sample → Temperature
 tr c s = temperatureOrMissing (returnOf c s)
 
 -- the exact heat: the step takes its floor, and the sum of demand 3 the fraction
-unfoldable pub heatOf : Card → Sample → ExactHeat
-heatOf c s = exactHeat water (volumeOf c s) (ts c s) (tr c s) (atPlace (c .place) (ts c s) (tr c s))
+unfoldable pub sampleHeat : Card → Sample → Fraction
+sampleHeat c s = exactHeat water (volumeOf c s) (ts c s) (tr c s) (atPlace (c .place) (ts c s) (tr c s))

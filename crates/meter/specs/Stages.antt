@@ -4,10 +4,10 @@ use mathlib.Core.Path.{_≡_}
 use Prim.Native.Nat.{ℕ, _+_, _≤_, _<_}
 use Rattle.quantity.specs.Refusals.{NoneApplies}
 use Rattle.quantity.specs.declared.units.Temperature.{Temperature}
-use Rattle.water.specs.Heat.{floored}
+use Rattle.quantity.specs.Fractions.{floored}
 use Rattle.meter.specs.Card.{cardRows}
 use Rattle.meter.specs.State.{stateRows, largestRegister, largestVolume, largestCount}
-use Rattle.meter.specs.Sample.{volumeOf, ts, tr, heatOf}
+use Rattle.meter.specs.Sample.{volumeOf, ts, tr, sampleHeat}
 use Rattle.meter.specs.Step.{countRows, rangeRows}
 use Rattle.meter.specs.declared.card.Card.{Card}
 use Rattle.meter.specs.declared.state.Meter.{Meter}
@@ -46,7 +46,7 @@ pub record Ranged (m : Meter) (s : Sample) (volume : ℕ) (supply returned : Tem
 -- what the sample would add
 pub record Heated (m : Meter) (s : Sample) (heat volume : ℕ) : Type 0 where
   pub counted : Counted m s
-  pub heat-is : heat ≡ floored (heatOf (m .card) s)
+  pub heat-is : heat ≡ floored (sampleHeat (m .card) s)
   pub volume-is : volume ≡ volumeOf (m .card) s
 
 -- there is room for it

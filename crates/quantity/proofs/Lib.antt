@@ -2,8 +2,8 @@
 pub mod Columns
 pub mod Comparing
 pub mod Conditions
-pub mod CrossProducts
 pub mod Distance
 pub mod Floors
+pub mod Fractions
 pub mod Rows
 pub mod Span

@@ -2,3 +2,4 @@
 pub mod Units
 pub mod Refusals
 pub mod Range
+pub mod Fractions

@@ -1,10 +1,12 @@
-// What every crate shares: the units of temperature and of difference, the refusal table's rows, the numbers of
-// a temperature's two ends, and the comparison of two products of 64-bit numbers.
+// What every crate shares: the units of temperature and of difference, exact fractions, the refusal table's rows, the
+// numbers of a temperature's two ends, and the comparison of two products of 64-bit numbers.
+mod fraction;
 mod product;
 mod range;
 mod refusal;
 mod units;
 
+pub use fraction::Fraction;
 pub use product::product_less;
 pub use range::End;
 pub use range::Position;

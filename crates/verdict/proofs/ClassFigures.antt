@@ -7,9 +7,9 @@ use Prim.Native.Nat.{ℕ, _*_, _≤_}
 use native.Mathlib.Omega.{arith}
 use lib.Dec.{eqb}
 use borrow.Author.Tests.{eqb-true, eqb-false}
-use Rattle.verdict.specs.Fraction.{whole, AtMost}
+use Rattle.quantity.specs.Fractions.{whole, AtMost}
 use Rattle.verdict.specs.Limit.{hundredths, figures, figuresOf, Bounded}
-use Rattle.verdict.specs.declared.limit.Fraction.{Fraction}
+use Rattle.quantity.specs.declared.fraction.Fraction.{Fraction}
 use Rattle.verdict.specs.declared.class.Figures.{Figures}
 
 -- the constant is as many percent as the class's number, the factor at most 0.05, the cap 5

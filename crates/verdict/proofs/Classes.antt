@@ -9,10 +9,10 @@ use native.Mathlib.Nat.{mul-le-mul}
 use native.Mathlib.Omega.{arith}
 use lib.Dec.{lit≤}
 use borrow.Author.Tests.{le-leb}
-use Rattle.verdict.specs.Fraction.{whole, plus, times, smaller, AtMost, Represents}
+use Rattle.quantity.specs.Fractions.{whole, plus, times, smaller, AtMost, Represents}
 use Rattle.verdict.specs.Limit.{hundredths, figuresOf, differenceRatio, flowRatio, calculatorLimit, pairLimit, flowSensorSum, flowSensorLimit, completeLimit}
 use Rattle.verdict.specs.Rows.{Admitted}
-use Rattle.verdict.specs.declared.limit.Fraction.{Fraction}
+use Rattle.quantity.specs.declared.fraction.Fraction.{Fraction}
 use Rattle.verdict.specs.declared.class.Figures.{Figures}
 use Rattle.verdict.specs.declared.point.TestPoint.{TestPoint}
 use Rattle.verdict.proofs.ClassFigures.{of-class, capped-at-5}
@@ -33,7 +33,7 @@ of-sums f p k e dh qh =
     let d = p .difference .0 in
     let q = p .q in
     record {
-      positive = omega (arith, mul-le-mul dh qh);
+      is-fraction = omega (arith, mul-le-mul dh qh);
       same = omega (arith, ap (λ (y : ℕ). y * (40000 * (d * d * d * (q * q)))) e);
     }
 

@@ -3,7 +3,7 @@
 use mathlib.Core.Path.{_≡_, refl}
 use Prim.Native.Nat.{ℕ}
 use Rattle.quantity.specs.Refusals.{outside, firstOf}
-use Rattle.verdict.specs.Fraction.{plus, times, smaller}
+use Rattle.quantity.specs.Fractions.{plus, times, smaller}
 use Rattle.verdict.specs.Limit.{figuresOf, calculatorLimit, pairLimit, flowSensorSum, flowSensorLimit, completeLimit, partLimit, limitOf}
 use Rattle.verdict.specs.Rows.{differenceOutside, flowOutside, valueOutside}
 use Rattle.verdict.specs.Verdict.{passes, refusedOr, verdictOf}

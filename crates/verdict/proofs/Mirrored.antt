@@ -8,7 +8,7 @@ use borrow.Author.Tests.{le-ltb}
 use Rattle.verdict.specs.Limit.{figuresOf, limitOf}
 use Rattle.verdict.specs.Rows.{valueOutside}
 use Rattle.verdict.specs.Verdict.{passes, verdictOf}
-use Rattle.verdict.specs.declared.limit.Fraction.{Fraction}
+use Rattle.quantity.specs.declared.fraction.Fraction.{Fraction}
 use Rattle.verdict.specs.declared.point.TestPoint.{TestPoint}
 
 same-pass : (l : Fraction) (i j x : ℕ) → i + j ≡ 2 * x → passes l i x ≡ passes l j x

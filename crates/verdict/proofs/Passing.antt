@@ -6,22 +6,22 @@ use Prim.Native.Nat.{ℕ, _*_, _<_}
 use native.Mathlib.Nat.{le-of-eq}
 use lib.Dec.{leb, ltb}
 use borrow.Author.Tests.{le-leb, lt-leb, leb-true, ltb-true, ltb-false}
-use Rattle.quantity.proofs.CrossProducts.{transitive}
-use Rattle.verdict.specs.Fraction.{AtMost, Represents}
+use Rattle.quantity.proofs.Fractions.{transitive}
+use Rattle.quantity.specs.Fractions.{_over_, IsFraction, AtMost, Represents}
 use Rattle.verdict.specs.Verdict.{absoluteError, passes}
-use Rattle.verdict.specs.declared.limit.Fraction.{Fraction}
+use Rattle.quantity.specs.declared.fraction.Fraction.{Fraction}
 
 -- what passes a limit passes a wider one
-pub wider : (l m : Fraction) (i x : ℕ) → 0 < l .denominator → AtMost l m → passes l i x ≡ true → passes m i x ≡ true
+pub wider : (l m : Fraction) (i x : ℕ) → IsFraction l → AtMost l m → passes l i x ≡ true → passes m i x ≡ true
 unfolding passes
 wider l m i x p h e =
-    le-leb _ _ (transitive (absoluteError i x * 100) x (l .numerator) (l .denominator) (m .numerator) (m .denominator) p (leb-true _ _ e) h)
+    le-leb _ _ (transitive (absoluteError i x * 100 over x) l m p (leb-true _ _ e) h)
 
 -- equal limits are passed alike
-pub equal-limits : (l m : Fraction) (i x : ℕ) → Represents l m → 0 < m .denominator → passes l i x ≡ passes m i x
+pub equal-limits : (l m : Fraction) (i x : ℕ) → Represents l m → IsFraction m → passes l i x ≡ passes m i x
 equal-limits l m i x r p = go (passes l i x) (passes m i x) refl refl
   where
     go : (a b : Bool) → passes l i x ≡ a → passes m i x ≡ b → passes l i x ≡ passes m i x
-    go true b e f = e ∙ sym (wider l m i x (r .positive) (le-of-eq (r .same)) e)
+    go true b e f = e ∙ sym (wider l m i x (r .is-fraction) (le-of-eq (r .same)) e)
     go false true e f = wider m l i x p (le-of-eq (sym (r .same))) f ∙ sym f
     go false false e f = e ∙ sym f

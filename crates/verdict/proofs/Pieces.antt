@@ -7,9 +7,9 @@ use Prim.Native.Nat.{ℕ, _+_, _*_, _<_, min}
 use native.Mathlib.Nat.{mul-le-mul}
 use native.Mathlib.Omega.{arith}
 use borrow.Author.Tests.{leb-true, leb-false}
-use Rattle.verdict.specs.Fraction.{_over_, whole, plus, times, smaller, AtMost, isAtMost, Represents}
+use Rattle.quantity.specs.Fractions.{_over_, whole, plus, times, smaller, AtMost, isAtMost, Represents}
 use Rattle.verdict.specs.Limit.{hundredths, calculatorLimit, pairLimit, flowSensorSum, flowSensorLimit, completeLimit}
-use Rattle.verdict.specs.declared.limit.Fraction.{Fraction}
+use Rattle.quantity.specs.declared.fraction.Fraction.{Fraction}
 use Rattle.verdict.specs.declared.class.Figures.{Figures}
 use Rattle.verdict.specs.declared.point.TestPoint.{TestPoint}
 
@@ -17,13 +17,13 @@ pub calculator : (p : TestPoint) →
     let d = p .difference .0 in
     0 < d → Represents (d + 200 * p .«delta_min» over 2 * d) (calculatorLimit p)
 unfolding calculatorLimit plus
-calculator p h = record { positive = omega arith; same = omega arith }
+calculator p h = record { is-fraction = omega arith; same = omega arith }
 
 pub pair : (p : TestPoint) →
     let d = p .difference .0 in
     0 < d → Represents (d + 600 * p .«delta_min» over 2 * d) (pairLimit p)
 unfolding pairLimit plus times
-pair p h = record { positive = omega arith; same = omega arith }
+pair p h = record { is-fraction = omega arith; same = omega arith }
 
 -- the smaller of the sum and the cap, both times 100 × q
 pub flow-sensor : (f : Figures) (p : TestPoint) (n : ℕ) → 0 < p .q → n ≡ min (f .constant * p .q + f .factor * p .qp) (f .cap * p .q) → Represents (n over 100 * p .q) (flowSensorLimit f p)
@@ -34,11 +34,11 @@ flow-sensor f p n h e = go (isAtMost (flowSensorSum f p) (hundredths (f .cap))) 
     go true t =
         let l : AtMost (flowSensorSum f p) (hundredths (f .cap)) = leb-true _ _ t in
         let m : n ≡ f .constant * p .q + f .factor * p .qp = omega arith in
-        rw m (record { positive = omega arith; same = omega arith })
+        rw m (record { is-fraction = omega arith; same = omega arith })
     go false t =
         let l : f .cap * flowSensorSum f p .denominator < flowSensorSum f p .numerator * 100 = leb-false _ _ t in
         let m : n ≡ f .cap * p .q = omega arith in
-        rw m (record { positive = omega arith; same = omega arith })
+        rw m (record { is-fraction = omega arith; same = omega arith })
 
 -- a complete instrument's, from a fraction n/e for the flow sensor's
 pub complete : (f : Figures) (p : TestPoint) (n e : ℕ) →
@@ -49,11 +49,6 @@ unfolding completeLimit calculatorLimit pairLimit plus times
 complete f p n e h r =
     let d = p .difference .0 in
     record {
-      positive = omega (arith, mul-le-mul h (r .positive));
+      is-fraction = omega (arith, mul-le-mul h (r .is-fraction));
       same = omega (arith, ap (λ (y : ℕ). y * (8 * (d * d * d))) (r .same));
     }
-
--- in service
-pub doubled : (r x : Fraction) → Represents r x → Represents (2 * r .numerator over r .denominator) (times (whole 2) x)
-unfolding times
-doubled r x h = record { positive = h .positive; same = omega (arith, ap (λ (y : ℕ). 2 * y) (h .same)) }

@@ -7,11 +7,11 @@ use Rattle.quantity.specs.Refusals.{firstOf, orRow}
 use Rattle.quantity.proofs.Rows.{accumulated}
 use Rattle.quantity.specs.declared.refusal.Outcome.{Outcome}
 use Rattle.quantity.specs.declared.refusal.Outcome.the-variants.{Accepted, Refused as RowRefused}
-use Rattle.verdict.specs.Fraction.{Represents}
+use Rattle.quantity.specs.Fractions.{Represents}
 use Rattle.verdict.specs.Limit.{figuresOf, limitOf}
 use Rattle.verdict.specs.Rows.{valueOutside, pointRows, verdictRows}
 use Rattle.verdict.specs.Verdict.{passes, answer, refusedOr, verdictOf}
-use Rattle.verdict.specs.declared.limit.Fraction.{Fraction}
+use Rattle.quantity.specs.declared.fraction.Fraction.{Fraction}
 use Rattle.verdict.specs.declared.class.Figures.{Figures}
 use Rattle.verdict.specs.declared.point.TestPoint.{TestPoint}
 use Rattle.verdict.specs.declared.bench.Verdict.the-variants.{Refused}

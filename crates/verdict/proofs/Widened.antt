@@ -7,11 +7,11 @@ use native.Mathlib.Omega.{arith}
 use Rattle.quantity.specs.Refusals.{outside, firstOf, orRow}
 use Rattle.quantity.specs.declared.refusal.Outcome.{Outcome}
 use Rattle.quantity.specs.declared.refusal.Outcome.the-variants.{Accepted, Refused as RowRefused}
-use Rattle.verdict.specs.Fraction.{whole, times, AtMost}
+use Rattle.quantity.specs.Fractions.{AtMost}
+use Rattle.quantity.proofs.Fractions.{twice}
 use Rattle.verdict.specs.Limit.{figuresOf, calculatorLimit, pairLimit, flowSensorSum, flowSensorLimit, completeLimit, partLimit, limitOf}
 use Rattle.verdict.specs.Rows.{valueOutside, verdictRows, Admitted}
 use Rattle.verdict.specs.Verdict.{passes, answer, refusedOr, verdictOf}
-use Rattle.verdict.specs.declared.limit.Fraction.{Fraction}
 use Rattle.verdict.specs.declared.point.TestPoint.{TestPoint}
 use Rattle.verdict.specs.declared.bench.Verdict.the-variants.{Pass}
 use Rattle.verdict.proofs.Passing.{wider}
@@ -66,10 +66,6 @@ atStage s p =
       qp = p .qp;
       q = p .q;
     }
-
-twice : (x : Fraction) → AtMost x (times (whole 2) x)
-unfolding times
-twice x = omega arith
 
 -- what passes at verification passes in service
 pub in-service : (p : TestPoint) (i x : ℕ) → verdictOf (atStage 1 p) i x ≡ Pass → verdictOf (atStage 2 p) i x ≡ Pass

@@ -1,5 +1,4 @@
 -- What the contracts of this crate, and of those above it, cite.
-pub mod Fraction
 pub mod Limit
 pub mod Rows
 pub mod Verdict

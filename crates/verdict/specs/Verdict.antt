@@ -7,7 +7,7 @@ use Rattle.quantity.specs.declared.refusal.Outcome.{Outcome}
 use Rattle.quantity.specs.declared.refusal.Outcome.the-variants.{Accepted, Refused as RowRefused}
 use Rattle.verdict.specs.Limit.{figuresOf, limitOf}
 use Rattle.verdict.specs.Rows.{verdictRows}
-use Rattle.verdict.specs.declared.limit.Fraction.{Fraction}
+use Rattle.quantity.specs.declared.fraction.Fraction.{Fraction}
 use Rattle.verdict.specs.declared.point.TestPoint.{TestPoint}
 use Rattle.verdict.specs.declared.bench.Verdict.{Verdict}
 use Rattle.verdict.specs.declared.bench.Verdict.the-variants.{Pass, Fail, Refused}

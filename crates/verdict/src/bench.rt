@@ -1,8 +1,8 @@
 // The verdict of the test bench on an indicated value.
 use crate::class::figures_of_class;
-use crate::limit::Fraction;
 use crate::limit::limit;
 use crate::point::TestPoint;
+use quantity::Fraction;
 use quantity::Outcome;
 use quantity::product_less;
 ghost use mathlib.Core.Path.{_≡_};

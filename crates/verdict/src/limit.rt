@@ -1,17 +1,12 @@
 // The maximum permissible error of a test point, as an exact fraction of percent.
 use crate::class::Figures;
 use crate::point::TestPoint;
+use quantity::Fraction;
 ghost use mathlib.Core.Path.{_≡_};
 ghost use Prim.Native.Nat.{_+_, _*_, _^_, _≤_, min};
-ghost use Rattle.verdict.specs.Fraction.{Represents};
+ghost use Rattle.quantity.specs.Fractions.{Represents};
 ghost use Rattle.verdict.specs.Limit.{Bounded, partLimit, limitOf};
 ghost use Rattle.verdict.specs.Rows.{Admitted};
-
-// An exact fraction: numerator over denominator. That of a limit is above zero.
-pub(crate) struct Fraction {
-    pub(crate) numerator: u64,
-    pub(crate) denominator: u64,
-}
 
 // The flow sensor's limit at verification, times 100 × q: what the cap leaves of constant + factor × qp/q.
 fn flow_sensor_part(figures: Figures, qp: u64, q: u64) -> u64

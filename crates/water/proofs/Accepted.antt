@@ -10,7 +10,8 @@ use Rattle.quantity.specs.Refusals.{outside}
 use Rattle.quantity.proofs.Rows.{no-refusal}
 use Rattle.water.specs.Table.{Table}
 use Rattle.water.specs.Pair.{atPlace}
-use Rattle.water.specs.Heat.{exactHeat, floored, heatRows, heatOf}
+use Rattle.quantity.specs.Fractions.{floored}
+use Rattle.water.specs.Heat.{exactHeat, heatRows, heatOf}
 use Rattle.water.specs.declared.answers.Heat.{Heat}
 
 pub heat-accepted :

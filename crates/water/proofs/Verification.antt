@@ -4,35 +4,35 @@ use mathlib.Core.Bool.{Bool, true, _&&_}
 use mathlib.Core.List.{List, [], _∷_}
 use Prim.Native.Nat.{ℕ, _^_}
 use lib.Dec.{T, eqb}
-use Rattle.water.specs.Fraction.{Fraction, decimal, _⊖_, _⊗_, _⊘_, nearest}
+use Rattle.water.specs.Signed.{SignedFraction, decimalNumber, _⊖_, _⊗_, _⊘_, nearest}
 use Rattle.water.specs.If97.{γ, γτ, R, reducedPressure, reducedTemperature, enthalpy, volume}
 use Rattle.water.specs.Table.{kelvins}
 
 -- a figure: the exact value in the figure's own unit, and the digits as published, so many of them after the point
 record Figure : Type 0 where
-  value : Fraction
+  value : SignedFraction
   digits : ℕ
   places : ℕ
 
-abbrev figure : Fraction → ℕ → ℕ → Figure
+abbrev figure : SignedFraction → ℕ → ℕ → Figure
 figure x n k = record { value = x; digits = n; places = k }
 
 abbrev agree : List Figure → Bool
 agree [] = true
-agree (f ∷ fs) = eqb (nearest (f .value ⊗ decimal (10 ^ f .places) 0)) (f .digits) && agree fs
+agree (f ∷ fs) = eqb (nearest (f .value ⊗ decimalNumber (10 ^ f .places) 0)) (f .digits) && agree fs
 
 -- a pressure in MPa and a temperature in K
-abbrev MPa : ℕ → Fraction
-MPa n = decimal n 0
+abbrev MPa : ℕ → SignedFraction
+MPa n = decimalNumber n 0
 
-abbrev K : ℕ → Fraction
-K n = decimal n 0
+abbrev K : ℕ → SignedFraction
+K n = decimalNumber n 0
 
-abbrev kilo : Fraction → Fraction
-kilo x = x ⊘ decimal 1000 0
+abbrev kilo : SignedFraction → SignedFraction
+kilo x = x ⊘ decimalNumber 1000 0
 
 -- s = R × (τ γτ − γ): of the figures here the only one that rests on row 3, which has no part in either derivative
-abbrev entropy : Fraction → Fraction → Fraction
+abbrev entropy : SignedFraction → SignedFraction → SignedFraction
 entropy p T =
     R ⊗ (reducedTemperature T ⊗ γτ (reducedPressure p) (reducedTemperature T) ⊖ γ (reducedPressure p) (reducedTemperature T))
 
@@ -51,15 +51,15 @@ release =
     ∷ []
 
 -- v and h at 16 bar and a degree
-abbrev v : ℕ → Fraction
-v degrees = volume (decimal 16 1) (kelvins (decimal degrees 0))
+abbrev v : ℕ → SignedFraction
+v degrees = volume (decimalNumber 16 1) (kelvins (decimalNumber degrees 0))
 
-abbrev h : ℕ → Fraction
-h degrees = enthalpy (decimal 16 1) (kelvins (decimal degrees 0))
+abbrev h : ℕ → SignedFraction
+h degrees = enthalpy (decimalNumber 16 1) (kelvins (decimalNumber degrees 0))
 
 -- (A.1): k = (hf − hr) / (v × (Θf − Θr)), in MJ/(m³ K), here at 70 °C and 30 °C
-abbrev k : Fraction → Fraction
-k volume = (h 70 ⊖ h 30) ⊘ (volume ⊗ decimal 40 0) ⊘ decimal (10 ^ 6) 0
+abbrev k : SignedFraction → SignedFraction
+k volume = (h 70 ⊖ h 30) ⊘ (volume ⊗ decimalNumber 40 0) ⊘ decimalNumber (10 ^ 6) 0
 
 -- document 000, Annex A, "Samples of values" at 16 bar (also 001, Tabela nr 2, and 004, Annexe A): v in m³/kg, h in kJ/kg and the
 -- heat coefficient for the flow sensor in the flow and in the return

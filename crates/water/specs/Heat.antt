@@ -1,28 +1,21 @@
 -- The heat of a volume, document 01, "Meter's step": "Its exact heat in mJ is 1000000×u×(H(ts)−H(tr))/V, V at the card's
 -- place. An accepted sample adds the floor of it to the register [..] The fraction, not the floor, is what demand 3 adds up."
-use Prim.Native.Nat.{ℕ, _-_, _*_, _/_}
+use Prim.Native.Nat.{ℕ, _-_, _*_}
 use mathlib.Core.List.{List, [], _∷_, _++_}
 use lib.Dec.{ltb}
 use Rattle.quantity.specs.declared.units.Temperature.{Temperature}
 use Rattle.quantity.specs.declared.refusal.Outcome.{Outcome}
+use Rattle.quantity.specs.declared.fraction.Fraction.{Fraction}
+use Rattle.quantity.specs.Fractions.{_over_, floored}
 use Rattle.quantity.specs.Refusals.{Row, row, firstOf}
 use Rattle.water.specs.Table.{Table}
 use Rattle.water.specs.Interpolation.{enthalpyAt, volumeAt}
 use Rattle.water.specs.Pair.{atPlace, pairRows}
 use Rattle.water.specs.declared.answers.Heat.{Heat}
 
--- an exact heat in mJ: an upper number over a lower one
-pub record ExactHeat : Type 0 where
-  pub upper : ℕ
-  pub lower : ℕ
-
--- of u mL between a warm and a cold temperature, with the volume measured at a third
-unfoldable pub exactHeat : Table → ℕ → Temperature → Temperature → Temperature → ExactHeat
-exactHeat w u warm cold measured =
-    record { upper = 1000000 * u * (enthalpyAt w warm - enthalpyAt w cold); lower = volumeAt w measured }
-
-abbrev pub floored : ExactHeat → ℕ
-floored e = e .upper / e .lower
+-- the exact heat in mJ of u mL between a warm and a cold temperature, with the volume measured at a third
+unfoldable pub exactHeat : Table → ℕ → Temperature → Temperature → Temperature → Fraction
+exactHeat w u warm cold measured = 1000000 * u * (enthalpyAt w warm - enthalpyAt w cold) over volumeAt w measured
 
 -- document 01 has no row for this operation by itself, so it takes the paper's numbers: those of the coefficient up to 36,
 -- then 31 of the sample, "u above 1000000"

@@ -1,5 +1,5 @@
 -- What the contracts of this crate, and of those above it, cite.
-pub mod Fraction
+pub mod Signed
 pub mod If97
 pub mod Table
 pub mod Interpolation

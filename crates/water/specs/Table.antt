@@ -4,7 +4,7 @@
 use Prim.Native.Nat.{ℕ, _^_}
 use mathlib.Core.Bool.{cond}
 use lib.Dec.{leb}
-use Rattle.water.specs.Fraction.{Fraction, decimal, _⊕_, _⊗_, nearest}
+use Rattle.water.specs.Signed.{SignedFraction, decimalNumber, _⊕_, _⊗_, nearest}
 use Rattle.water.specs.If97.{enthalpy, volume}
 use Rattle.water.specs.declared.answers.Entry.{Entry}
 use Rattle.water.specs.declared.answers.Entry.the-variants.{At, Outside}
@@ -16,15 +16,15 @@ pub record Table : Type 0 where
   pub volumeOf : ℕ → ℕ
 
 -- "T = degrees + 273.15"
-abbrev pub kelvins : Fraction → Fraction
-kelvins degrees = degrees ⊕ decimal 27315 2
+abbrev pub kelvins : SignedFraction → SignedFraction
+kelvins degrees = degrees ⊕ decimalNumber 27315 2
 
 -- h in mJ/kg and v in 10^-12 m³/kg, at a pressure in bar (0.1 MPa) and a whole degree
 unfoldable pub enthalpyEntry : ℕ → ℕ → ℕ
-enthalpyEntry bar d = nearest (decimal 1000 0 ⊗ enthalpy (decimal bar 1) (kelvins (decimal d 0)))
+enthalpyEntry bar d = nearest (decimalNumber 1000 0 ⊗ enthalpy (decimalNumber bar 1) (kelvins (decimalNumber d 0)))
 
 unfoldable pub volumeEntry : ℕ → ℕ → ℕ
-volumeEntry bar d = nearest (decimal (10 ^ 12) 0 ⊗ volume (decimal bar 1) (kelvins (decimal d 0)))
+volumeEntry bar d = nearest (decimalNumber (10 ^ 12) 0 ⊗ volume (decimalNumber bar 1) (kelvins (decimalNumber d 0)))
 
 -- the table at a pressure in bar, from degree 0 to a last one
 abbrev pub tableAt : ℕ → ℕ → Table

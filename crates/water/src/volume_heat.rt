@@ -2,7 +2,8 @@
 ghost use mathlib.Core.Path.{_≡_};
 ghost use Prim.Native.Nat.{_≤_};
 ghost use Rattle.water.specs.Table.{water};
-ghost use Rattle.water.specs.Heat.{exactHeat, floored, heatOf};
+ghost use Rattle.quantity.specs.Fractions.{floored};
+ghost use Rattle.water.specs.Heat.{exactHeat, heatOf};
 use crate::answers::Heat;
 use crate::interpolation::enthalpy_rise;
 use crate::interpolation::volume_at;

@@ -3,14 +3,14 @@
 use borrow.Author.Needs.{needs}
 use mathlib.Core.Path.{_≡_, sym, _∙_}
 use Rattle.water.specs.declared.answers.Heat.the-variants.{Millijoules}
-use Rattle.water.specs.Heat.{floored}
-use Rattle.meter.specs.Sample.{heatOf}
+use Rattle.quantity.specs.Fractions.{floored}
+use Rattle.meter.specs.Sample.{sampleHeat}
 use Rattle.meter.proofs.Heats.{of-sample, same-heat, never-refused}
 use Rattle.meter.proofs.Stages.{countable}
 use Rattle.meter.proofs.stepping.take_heat.Statement.{statement}
 use Rattle.meter.proofs.stepping.take_heat.Tie as tie
 
-told : (c : tie.After-heat) → c .heat .result ≡ Millijoules (floored (heatOf (c .before .args .m .card) (c .before .args .s)))
+told : (c : tie.After-heat) → c .heat .result ≡ Millijoules (floored (sampleHeat (c .before .args .m .card) (c .before .args .s)))
 told c = c .heat .ensures ∙ of-sample _ _ _ _ _ (c .before .pre)
 
 heat-requires : tie.Need-heat-requires

@@ -3,7 +3,7 @@
 use borrow.Author.Needs.{needs}
 use borrow.Author.Tests.{ne-eqb}
 use Rattle.verdict.specs.Limit.{limitOf}
-use Rattle.verdict.proofs.Pieces.{doubled}
+use Rattle.quantity.proofs.Fractions.{doubled}
 use Rattle.verdict.proofs.limit.limit.Statement.{statement}
 use Rattle.verdict.proofs.limit.limit.Tie as tie
 

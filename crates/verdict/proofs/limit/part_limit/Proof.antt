@@ -5,7 +5,7 @@ use Prim.Native.Nat.{_*_, _^_, _≤_, _<_}
 use native.Mathlib.Nat.{mul-le-mul}
 use native.Mathlib.Omega.{arith}
 use borrow.Author.Tests.{ne-eqb}
-use Rattle.verdict.specs.Fraction.{_over_, Represents}
+use Rattle.quantity.specs.Fractions.{_over_, Represents}
 use Rattle.verdict.specs.Limit.{flowSensorLimit, partLimit}
 use Rattle.verdict.proofs.Pieces.{calculator, pair, flow-sensor, complete}
 use Rattle.verdict.proofs.Ranges.{InRange, ranges}
