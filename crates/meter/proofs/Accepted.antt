@@ -10,7 +10,7 @@ use lib.Dec.{ltb, leb, eqb}
 use borrow.Author.Tests.{ltb-false, leb-true, leb-false, eqb-false, eqb-true, not-false}
 use Rattle.quantity.specs.Refusals.{outside, NoneApplies}
 use Rattle.quantity.proofs.Conditions.{neither, both, inside}
-use Rattle.quantity.specs.Units.{isColder, distanceOf}
+use Rattle.quantity.specs.Units.{lastHundredth, lastDegree, largestKelvins, isColder, distanceOf}
 use Rattle.quantity.specs.declared.units.Temperature.{Temperature}
 use Rattle.quantity.specs.declared.range.Position.{Position}
 use Rattle.quantity.specs.declared.range.Position.the-variants.{Supply, Return}
@@ -21,7 +21,7 @@ use Rattle.platinum.specs.Refusal.{endRows}
 use Rattle.platinum.specs.declared.reading.Measured.{Measured}
 use Rattle.platinum.specs.declared.reading.Measured.the-variants.{At, Outside, NoSensor}
 use Rattle.platinum.specs.Temperature.{temperatureOf}
-use Rattle.platinum.proofs.Answer.{at-most}
+use Rattle.platinum.proofs.Answer.{within-range}
 use Rattle.meter.specs.Card.{cardRows}
 use Rattle.meter.specs.State.{stateRows, largestRegister, largestVolume, largestCount}
 use Rattle.meter.specs.Sample.{volumeOf, supplyOf, returnOf, temperatureOrMissing, ts, tr, sampleHeat}
@@ -47,9 +47,9 @@ pub record AcceptedCard (c : Card) : Type 0 where
   pub sensor : c .sensor ≤ 1000
   pub place : outside (c .place) 1 2 ≡ false
   pub ml : (1 ≤ c .«ml_per_pulse») × (c .«ml_per_pulse» ≤ 100000)
-  pub theta : (c .«theta_min» < c .«theta_max») × (c .«theta_max» ≤ 180)
+  pub theta : (c .«theta_min» < c .«theta_max») × (c .«theta_max» ≤ lastDegree)
   pub delta-min : (1 ≤ c .«delta_min») × (c .«delta_min» ≤ 3)
-  pub delta-max : (10 * c .«delta_min» ≤ c .«delta_max») × (c .«delta_max» ≤ 180)
+  pub delta-max : (10 * c .«delta_min» ≤ c .«delta_max») × (c .«delta_max» ≤ largestKelvins)
   pub flow : c .qs ≤ 10 ^ 9
   pub flows : (c .qi ≤ c .qp) × (c .qp ≤ c .qs)
   pub power : (1 ≤ c .ps) × (c .ps ≤ 10 ^ 9)
@@ -155,13 +155,13 @@ has-temperatures c s h =
     record { supply = has-temperature Supply _ (p .0); returned = has-temperature Return _ (p .1) }
 
 -- a temperature of the definitions, the default among them, is at most 180.00 °C
-by-answer : (x : Measured) → ((t : Temperature) → x ≡ At t → t .0 ≤ 18000) → temperatureOrMissing x .0 ≤ 18000
+by-answer : (x : Measured) → ((t : Temperature) → x ≡ At t → t .0 ≤ lastHundredth) → temperatureOrMissing x .0 ≤ lastHundredth
 by-answer (At t) h = h t refl
 by-answer (Outside e) h = omega arith
 by-answer NoSensor h = omega arith
 
-pub temperature-at-most : (field r : ℕ) → temperatureOrMissing (temperatureOf field r) .0 ≤ 18000
-temperature-at-most field r = by-answer (temperatureOf field r) (at-most field r)
+pub temperature-at-most : (field r : ℕ) → temperatureOrMissing (temperatureOf field r) .0 ≤ lastHundredth
+temperature-at-most field r = by-answer (temperatureOf field r) (within-range field r)
 
 -- products of an accepted card's and an accepted sample's numbers fit 64 bits
 pub product-fits : (a b : ℕ) → a ≤ 10 ^ 12 → b ≤ 3600 → a * b < 2 ^ 64

@@ -4,6 +4,7 @@ use mathlib.Core.List.{List, [], _∷_}
 use mathlib.Core.Bool.{Bool, not, _&&_, _||_}
 use lib.Dec.{ltb, leb}
 use Rattle.quantity.specs.Refusals.{Row, row, outside}
+use Rattle.quantity.specs.Units.{lastDegree, largestKelvins}
 use Rattle.platinum.specs.Sensor.{sensorOf, isUnknown}
 use Rattle.meter.specs.declared.card.Card.{Card}
 
@@ -34,9 +35,9 @@ cardRows c =
     ∷ row 11 (outside (c .place) 1 2)
     ∷ row 12 (isUnknown (sensorOf (c .sensor)))
     ∷ row 13 (outside (c .«ml_per_pulse») 1 100000)
-    ∷ row 14 (leb (c .«theta_max») (c .«theta_min») || ltb 180 (c .«theta_max»))
+    ∷ row 14 (leb (c .«theta_max») (c .«theta_min») || ltb lastDegree (c .«theta_max»))
     ∷ row 15 (outside (c .«delta_min») 1 3)
-    ∷ row 16 (ltb (c .«delta_max») (10 * c .«delta_min») || ltb 180 (c .«delta_max»))
+    ∷ row 16 (ltb (c .«delta_max») (10 * c .«delta_min») || ltb largestKelvins (c .«delta_max»))
     ∷ row 17 (not (leb 1 (c .qi) && leb (c .qi) (c .qp) && leb (c .qp) (c .qs) && leb (c .qs) (10 ^ 9)))
     ∷ row 18 (outside (c .ps) 1 (10 ^ 9))
     ∷ []

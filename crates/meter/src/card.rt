@@ -1,6 +1,8 @@
 // The card of a meter (document 01, "Card") and its refusals.
 use platinum::Sensor;
 use platinum::SensorField;
+use quantity::LARGEST_KELVINS;
+use quantity::LAST_DEGREE;
 use quantity::Outcome;
 use quantity::is_outside;
 ghost use mathlib.Core.Path.{_≡_};
@@ -8,6 +10,7 @@ ghost use mathlib.Core.Bool.{not, _&&_, _||_};
 ghost use Prim.Native.Nat.{_*_, _^_};
 ghost use lib.Dec.{ltb, leb};
 ghost use Rattle.quantity.specs.Refusals.{firstOf};
+ghost use Rattle.quantity.specs.Units.{lastDegree, largestKelvins};
 ghost use Rattle.platinum.specs.Sensor.{sensorOf, isUnknown};
 ghost use Rattle.meter.specs.Card.{fieldsOf, cardRows};
 
@@ -75,22 +78,22 @@ fn is_no_sensor(field: u64) -> bool
 }
 
 fn is_theta_refused(min: u64, max: u64) -> bool
-    ensures { λ r. ⌜ r ≡ (leb max min || ltb 180 max) ⌝ }
+    ensures { λ r. ⌜ r ≡ (leb max min || ltb lastDegree max) ⌝ }
 {
     if max <= min {
         return true;
     }
-    180 < max
+    LAST_DEGREE < max
 }
 
 // Ten times the least difference can pass 64 bits, so the largest one is divided instead.
 fn is_delta_max_refused(min: u64, max: u64) -> bool
-    ensures { λ r. ⌜ r ≡ (ltb max (10 * min) || ltb 180 max) ⌝ }
+    ensures { λ r. ⌜ r ≡ (ltb max (10 * min) || ltb largestKelvins max) ⌝ }
 {
     if max / 10 < min {
         return true;
     }
-    180 < max
+    LARGEST_KELVINS < max
 }
 
 fn are_flows_refused(qi: u64, qp: u64, qs: u64) -> bool

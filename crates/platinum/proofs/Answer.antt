@@ -15,8 +15,10 @@ use Rattle.quantity.specs.declared.range.Position.the-variants.{Alone}
 use Rattle.quantity.specs.declared.range.End.{End}
 use Rattle.quantity.specs.declared.range.End.the-variants.{Low, High}
 use Rattle.platinum.specs.Sensor.{resistanceOf, sensorOf, isUnknown}
-use Rattle.platinum.specs.Temperature.{W, last, scaled, largest, ofResistance, ofKind, temperatureOf, HasTemperature, IsTemperature}
+use Rattle.quantity.specs.Units.{lastHundredth}
+use Rattle.platinum.specs.Temperature.{W, scaled, largest, ofResistance, ofKind, temperatureOf, HasTemperature, IsTemperature}
 use Rattle.platinum.specs.Refusal.{refusalOf, endRows, aloneRows}
+use Rattle.platinum.specs.Theorems.{Answered, Exists, Unique, Exactly, WithinRange, LargerReading, FirstRow}
 use Rattle.platinum.specs.declared.sensor.Sensor.{Sensor}
 use Rattle.platinum.specs.declared.sensor.SensorField.{SensorField}
 use Rattle.platinum.specs.declared.sensor.SensorField.the-variants.{Kind, Unknown}
@@ -30,42 +32,42 @@ module _ (n r : ℕ) where
   test t = leb (n * W t) (scaled r)
 
   -- the largest one, in its range, is the temperature of r
-  is-temperature : n * W 0 ≤ scaled r → IsTemperature n r (largest test last)
+  is-temperature : n * W 0 ≤ scaled r → IsTemperature n r (largest test lastHundredth)
   unfolding test
   is-temperature h = record {
-    in-range = bounded test last;
-    reached = leb-true _ _ (holds test last (le-leb _ _ h));
-    largest-one = λ s g e. at-least test last s g (le-leb _ _ e);
+    in-range = bounded test lastHundredth;
+    reached = leb-true _ _ (holds test lastHundredth (le-leb _ _ h));
+    largest-one = λ s g e. at-least test lastHundredth s g (le-leb _ _ e);
   }
 
 -- there is at most one
-pub unique : (n r s t : ℕ) → IsTemperature n r s → IsTemperature n r t → s ≡ t
+pub unique : Unique
 unique n r s t h g = le-antisymm (g .largest-one s (h .in-range) (h .reached)) (h .largest-one t (g .in-range) (g .reached))
 
 -- what an answer `At t` says, by the two tests of `ofResistance`
-by-tests : (n r : ℕ) (t : Temperature) (low high : Bool) → ltb (scaled r) (n * W 0) ≡ low → ltb (n * W last) (scaled r) ≡ high →
-    cond low (Outside Low) (cond high (Outside High) (At (record { 0 = largest (test n r) last }))) ≡ At t → HasTemperature n r × IsTemperature n r (t .0)
+by-tests : (n r : ℕ) (t : Temperature) (low high : Bool) → ltb (scaled r) (n * W 0) ≡ low → ltb (n * W lastHundredth) (scaled r) ≡ high →
+    cond low (Outside Low) (cond high (Outside High) (At (record { 0 = largest (test n r) lastHundredth }))) ≡ At t → HasTemperature n r × IsTemperature n r (t .0)
 by-tests n r t true high p q e = let z : _≡_ {A = ℕ} 0 1 = cc in absurd (omega arith)
 by-tests n r t false true p q e = let z : _≡_ {A = ℕ} 0 1 = cc in absurd (omega arith)
 by-tests n r t false false p q e =
     let from = ltb-false (scaled r) (n * W 0) p in
-    let same : _≡_ {A = Temperature} (record { 0 = largest (test n r) last }) t = cc in
-    (record { from = from; to = ltb-false (n * W last) (scaled r) q }, subst (λ (x : Temperature). IsTemperature n r (x .0)) same (is-temperature n r from))
+    let same : _≡_ {A = Temperature} (record { 0 = largest (test n r) lastHundredth }) t = cc in
+    (record { from = from; to = ltb-false (n * W lastHundredth) (scaled r) q }, subst (λ (x : Temperature). IsTemperature n r (x .0)) same (is-temperature n r from))
 
 -- an answered temperature is that of r, and r lies in the range
-pub answered : (n r : ℕ) (t : Temperature) → ofResistance n r ≡ At t → HasTemperature n r × IsTemperature n r (t .0)
+pub answered : Answered
 unfolding ofResistance test
 answered n r t e = by-tests n r t _ _ refl refl e
 
-largest-is : (n r : ℕ) → HasTemperature n r → ofResistance n r ≡ At (record { 0 = largest (test n r) last })
+largest-is : (n r : ℕ) → HasTemperature n r → ofResistance n r ≡ At (record { 0 = largest (test n r) lastHundredth })
 unfolding ofResistance test
-largest-is n r h = simp (le-ltb (scaled r) (n * W 0) (h .from), le-ltb (n * W last) (scaled r) (h .to))
+largest-is n r h = simp (le-ltb (scaled r) (n * W 0) (h .from), le-ltb (n * W lastHundredth) (scaled r) (h .to))
 
 -- in the range there is an answer, and it is whichever t is the temperature of r
-pub exists : (n r : ℕ) → HasTemperature n r → (t : Temperature) × (ofResistance n r ≡ At t)
+pub exists : Exists
 exists n r h = (_, largest-is n r h)
 
-pub exactly : (n r : ℕ) (t : Temperature) → HasTemperature n r → IsTemperature n r (t .0) → ofResistance n r ≡ At t
+pub exactly : Exactly
 exactly n r t h g = largest-is n r h ∙ ap (λ (x : ℕ). At (record { 0 = x })) (unique n r _ _ (is-temperature n r (h .from)) g)
 
 -- a larger reading of the same sensor never has a smaller temperature
@@ -77,11 +79,11 @@ by-kind : (k : SensorField) (r : ℕ) (t : Temperature) → ofKind k r ≡ At t 
 by-kind (Kind s) r t e = (s, refl, answered (resistanceOf s) r t e .1)
 by-kind Unknown r t e = let z : _≡_ {A = ℕ} 0 1 = cc in absurd (omega arith)
 
-pub at-most : (field r : ℕ) (t : Temperature) → temperatureOf field r ≡ At t → t .0 ≤ last
+pub within-range : WithinRange
 unfolding temperatureOf
-at-most field r t e = by-kind (sensorOf field) r t e .2 .in-range
+within-range field r t e = by-kind (sensorOf field) r t e .2 .in-range
 
-pub larger-reading : (field r r′ : ℕ) (s t : Temperature) → r ≤ r′ → temperatureOf field r ≡ At s → temperatureOf field r′ ≡ At t → s .0 ≤ t .0
+pub larger-reading : LargerReading
 unfolding temperatureOf
 larger-reading field r r′ s t h e f =
     let a = by-kind (sensorOf field) r s e in
@@ -103,10 +105,14 @@ by-rows : (p : Position) (k : SensorField) (r : ℕ) → RowsSay p (ofKind k r) 
 unfolding refusalOf firstOf ofResistance test
 by-rows p (Kind s) r =
     let n = resistanceOf s in
-    kind-rows p (ltb (scaled r) (n * W 0)) (ltb (n * W last) (scaled r)) (record { 0 = largest (test n r) last })
+    kind-rows p (ltb (scaled r) (n * W 0)) (ltb (n * W lastHundredth) (scaled r)) (record { 0 = largest (test n r) lastHundredth })
 by-rows p Unknown r = refl
 
 -- the number of an answer is that of the first row that applies
-pub first-row : (field r : ℕ) → refusalOf Alone (temperatureOf field r) ≡ firstOf (aloneRows field r)
+pub first-row : FirstRow
 unfolding temperatureOf
 first-row field r = by-rows Alone (sensorOf field) r
+
+-- what is answered, and its number by itself
+pub by-itself : (field r : ℕ) (m : Measured) → m ≡ temperatureOf field r → (m ≡ temperatureOf field r) × (refusalOf Alone m ≡ firstOf (aloneRows field r))
+by-itself field r m e = (e, ap (refusalOf Alone) e ∙ first-row field r)

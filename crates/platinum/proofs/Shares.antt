@@ -8,7 +8,8 @@ use native.Mathlib.Omega.{arith}
 use lib.Dec.{leb}
 use borrow.Author.Tests.{le-leb, lt-leb}
 use Rattle.quantity.proofs.Comparing.{same-at-most}
-use Rattle.platinum.specs.Temperature.{W, last, largest}
+use Rattle.quantity.specs.Units.{lastHundredth}
+use Rattle.platinum.specs.Temperature.{W, largest}
 use Rattle.platinum.proofs.Growth.{grows-or-stays}
 use Rattle.platinum.proofs.Largest.{at-top, leave-out}
 
@@ -16,7 +17,7 @@ abbrev pub reaches : ℕ → ℕ → Bool
 reaches share t = leb (W t) share
 
 -- from a t whose share is larger, only what is below it counts
-pub below-it : (share t b : ℕ) → share < W t → 1 ≤ t → t ≤ b → b ≤ last → largest (reaches share) b ≡ largest (reaches share) (t - 1)
+pub below-it : (share t b : ℕ) → share < W t → 1 ≤ t → t ≤ b → b ≤ lastHundredth → largest (reaches share) b ≡ largest (reaches share) (t - 1)
 below-it share t b h o g l =
     leave-out (reaches share) (t - 1) b (omega arith)
     (λ s m n. lt-leb (W s) share (le-trans h (grows-or-stays t s (omega arith) (omega arith))))

@@ -2,3 +2,4 @@
 pub mod Sensor
 pub mod Temperature
 pub mod Refusal
+pub mod Theorems

@@ -40,6 +40,6 @@ endRows p m =
     ∷ row (endNumber p High) (hasNone High m)
     ∷ []
 
--- "Temperature alone": 12; 32. proofs/Answer.antt shows that `refusalOf Alone` of the answer is the first of these
+-- "Temperature alone": 12; 32. The temperature operation's `refusalOf Alone` is the first of these (`FirstRow` of specs/Theorems.antt)
 abbrev pub aloneRows : ℕ → ℕ → List Row
 aloneRows field r = row 12 (isUnknown (sensorOf field)) ∷ endRows Alone (temperatureOf field r)

@@ -3,6 +3,7 @@
 use Prim.Native.Nat.{ℕ, zero, suc, _+_, _-_, _*_, _≤_}
 use mathlib.Core.Bool.{Bool, true, false, cond}
 use lib.Dec.{leb, ltb}
+use Rattle.quantity.specs.Units.{lastHundredth}
 use Rattle.quantity.specs.declared.units.Temperature.{Temperature}
 use Rattle.quantity.specs.declared.range.End.{End}
 use Rattle.quantity.specs.declared.range.End.the-variants.{Low, High}
@@ -11,10 +12,6 @@ use Rattle.platinum.specs.declared.sensor.SensorField.{SensorField}
 use Rattle.platinum.specs.declared.sensor.SensorField.the-variants.{Kind, Unknown}
 use Rattle.platinum.specs.declared.reading.Measured.{Measured}
 use Rattle.platinum.specs.declared.reading.Measured.the-variants.{At, Outside, NoSensor}
-
--- "A temperature t counts hundredths of °C, 0 to 18000"
-abbrev pub last : ℕ
-last = 18000
 
 -- "W(t) = 100000000000000 + 3908300000×t − 5775×t×t"
 unfoldable pub W : ℕ → ℕ
@@ -34,8 +31,8 @@ largest test (suc t) = elim (test (suc t)) [ true ↦ suc t | false ↦ largest 
 unfoldable pub ofResistance : ℕ → ℕ → Measured
 ofResistance n r =
     cond (ltb (scaled r) (n * W 0)) (Outside Low)
-    (cond (ltb (n * W last) (scaled r)) (Outside High)
-    (At (record { 0 = largest (λ t. leb (n * W t) (scaled r)) last })))
+    (cond (ltb (n * W lastHundredth) (scaled r)) (Outside High)
+    (At (record { 0 = largest (λ t. leb (n * W t) (scaled r)) lastHundredth })))
 
 abbrev pub ofKind : SensorField → ℕ → Measured
 ofKind (Kind s) r = ofResistance (resistanceOf s) r
@@ -49,9 +46,9 @@ temperatureOf field r = ofKind (sensorOf field) r
 -- there is one, and then the one that is the largest.
 pub record HasTemperature (n r : ℕ) : Type 0 where
   pub from : n * W 0 ≤ scaled r
-  pub to : scaled r ≤ n * W last
+  pub to : scaled r ≤ n * W lastHundredth
 
 pub record IsTemperature (n r t : ℕ) : Type 0 where
-  pub in-range : t ≤ last
+  pub in-range : t ≤ lastHundredth
   pub reached : n * W t ≤ scaled r
-  pub largest-one : (s : ℕ) → s ≤ last → n * W s ≤ scaled r → s ≤ t
+  pub largest-one : (s : ℕ) → s ≤ lastHundredth → n * W s ≤ scaled r → s ≤ t

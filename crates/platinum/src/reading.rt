@@ -1,18 +1,19 @@
 // The temperature operation (document 01, "Temperature" and the row "Temperature alone").
-use crate::curve::LAST;
 use crate::curve::largest_at_most;
 use crate::curve::share_at;
 use crate::sensor::Sensor;
 use crate::sensor::SensorField;
 use quantity::End;
+use quantity::LAST_HUNDREDTH;
 use quantity::Outcome;
 use quantity::Position;
 use quantity::Temperature;
 ghost use mathlib.Core.Path.{_≡_};
 ghost use Prim.Native.Nat.{_<_, _≤_};
 ghost use Rattle.platinum.specs.Temperature.{ofResistance, temperatureOf};
-ghost use Rattle.platinum.specs.Refusal.{endRows, refusalOf};
+ghost use Rattle.platinum.specs.Refusal.{aloneRows, endRows, refusalOf};
 ghost use Rattle.quantity.specs.Refusals.{firstOf};
+ghost use Rattle.quantity.specs.declared.range.Position.the-variants as P;
 
 // What a reading gives: its temperature; or the end of the range that it misses; or no sensor kind to read it by.
 pub enum Measured {
@@ -21,9 +22,11 @@ pub enum Measured {
     NoSensor,
 }
 
-// The temperature of a reading in 0.0001 ohm, of a sensor that a card's field names. Any numbers are answered.
+// The temperature of a reading in 0.0001 ohm, of a sensor that a card's field names. Any numbers are answered; by itself the refusal is that
+// of the first row of "Temperature alone" that applies.
 pub fn temperature(field: u64, reading: u64) -> Measured
     ensures { λ r. ⌜ r ≡ temperatureOf field reading ⌝ }
+    ensures { λ r. ⌜ refusalOf P.Alone r ≡ firstOf (aloneRows field reading) ⌝ }
 {
     let kind = Sensor::from_field(field);
     match kind {
@@ -40,7 +43,7 @@ fn of_resistance(n: u64, reading: u64) -> Measured
     if quantity::product_less(reading, 10000000000, n, share_at(0)) {
         return Measured::Outside(End::Low);
     }
-    if quantity::product_less(n, share_at(LAST), reading, 10000000000) {
+    if quantity::product_less(n, share_at(LAST_HUNDREDTH), reading, 10000000000) {
         return Measured::Outside(End::High);
     }
     let share = reading * 10000000000 / n;

@@ -6,6 +6,17 @@ use lib.Dec.{ltb}
 use Rattle.quantity.specs.declared.units.Temperature.{Temperature}
 use Rattle.quantity.specs.declared.units.Difference.{Difference}
 
+-- The range of temperatures: its last hundredth, "0 to 18000", and its last whole degree, "from 0 to 180" in the water table; and the largest
+-- difference in it, in whole K.
+abbrev pub lastHundredth : ℕ
+lastHundredth = 18000
+
+abbrev pub lastDegree : ℕ
+lastDegree = 180
+
+abbrev pub largestKelvins : ℕ
+largestKelvins = 180
+
 -- whole °C, in hundredths
 abbrev pub wholeDegrees : ℕ → Temperature
 wholeDegrees d = record { 0 = d * 100 }

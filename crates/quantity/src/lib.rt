@@ -14,4 +14,7 @@ pub use range::end_number;
 pub use refusal::Outcome;
 pub use refusal::is_outside;
 pub use units::Difference;
+pub use units::LARGEST_KELVINS;
+pub use units::LAST_DEGREE;
+pub use units::LAST_HUNDREDTH;
 pub use units::Temperature;

@@ -3,6 +3,13 @@
 ghost use mathlib.Core.Path.{_≡_};
 ghost use Rattle.quantity.specs.Units.{isColder, isSmaller, distanceOf, wholeDegrees, wholeKelvins};
 
+// The last temperature, in hundredths of a degree Celsius and in whole degrees, and the largest difference, in whole kelvins.
+pub const LAST_HUNDREDTH: u64 = 18000;
+
+pub const LAST_DEGREE: u64 = 180;
+
+pub const LARGEST_KELVINS: u64 = 180;
+
 // A temperature in hundredths of a degree Celsius.
 pub struct Temperature(pub u64);
 

@@ -4,6 +4,7 @@
 use Prim.Native.Nat.{ℕ, _^_}
 use mathlib.Core.Bool.{cond}
 use lib.Dec.{leb}
+use Rattle.quantity.specs.Units.{lastDegree}
 use Rattle.water.specs.Signed.{SignedFraction, decimalNumber, _⊕_, _⊗_, nearest}
 use Rattle.water.specs.If97.{enthalpy, volume}
 use Rattle.water.specs.declared.answers.Entry.{Entry}
@@ -32,7 +33,7 @@ tableAt bar n = record { last = n; enthalpyOf = enthalpyEntry bar; volumeOf = vo
 
 -- the table of document 01: 16 bar are 1.6 MPa
 abbrev pub water : Table
-water = tableAt 16 180
+water = tableAt 16 lastDegree
 
 -- what a table has at any whole degree
 unfoldable pub entryOf : Table → ℕ → Entry

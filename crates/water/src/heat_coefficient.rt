@@ -1,6 +1,7 @@
 // The heat coefficient (document 01, "Water table" and the row "Coefficient").
 ghost use mathlib.Core.Path.{_≡_};
 ghost use Prim.Native.Nat.{_<_, _≤_};
+ghost use Rattle.quantity.specs.Units.{lastHundredth};
 ghost use Rattle.water.specs.Table.{water};
 ghost use Rattle.water.specs.Coefficient.{coefficientOf, flooredCoefficient};
 use crate::answers::Coefficient;
@@ -30,7 +31,7 @@ pub fn coefficient(ts: Temperature, tr: Temperature, place: u64) -> Coefficient
 
 // The volume is measured at the third temperature. 10^11 is taken as 1000 × 10^8, so that no product passes 64 bits.
 fn floored_coefficient(ts: Temperature, tr: Temperature, measured: Temperature) -> u64
-    requires { ⌜ (tr .0 < ts .0) × (ts .0 ≤ 18000) × (measured .0 ≤ 18000) ⌝ }
+    requires { ⌜ (tr .0 < ts .0) × (ts .0 ≤ lastHundredth) × (measured .0 ≤ lastHundredth) ⌝ }
     ensures { λ r. ⌜ r ≡ flooredCoefficient water ts tr measured ⌝ }
 {
     let rise = enthalpy_rise(ts, tr);

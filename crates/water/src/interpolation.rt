@@ -2,6 +2,7 @@
 ghost use mathlib.Core.Path.{_≡_};
 ghost use Prim.Native.Nat.{_+_, _-_, _*_, _<_, _≤_};
 ghost use lib.ListN.{length, getD};
+ghost use Rattle.quantity.specs.Units.{lastHundredth};
 ghost use Rattle.water.specs.Table.{water};
 ghost use Rattle.water.specs.Interpolation.{interpolated, enthalpyAt, volumeAt};
 use crate::tables::ENTHALPY;
@@ -31,7 +32,7 @@ fn mixed(low: u32, high: u32, f: u64) -> u64
 
 // H(warm) − H(cold). The table is lent once for both.
 pub(crate) fn enthalpy_rise(warm: Temperature, cold: Temperature) -> u64
-    requires { ⌜ (cold .0 ≤ warm .0) × (warm .0 ≤ 18000) ⌝ }
+    requires { ⌜ (cold .0 ≤ warm .0) × (warm .0 ≤ lastHundredth) ⌝ }
     ensures { λ r. ⌜ r ≡ enthalpyAt water warm - enthalpyAt water cold ⌝ }
 {
     let entries = &ENTHALPY;
@@ -40,7 +41,7 @@ pub(crate) fn enthalpy_rise(warm: Temperature, cold: Temperature) -> u64
 
 // V(t).
 pub(crate) fn volume_at(t: Temperature) -> u64
-    requires { ⌜ t .0 ≤ 18000 ⌝ }
+    requires { ⌜ t .0 ≤ lastHundredth ⌝ }
     ensures { λ r. ⌜ r ≡ volumeAt water t ⌝ }
 {
     interpolate(&VOLUME, t.0)

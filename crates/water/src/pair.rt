@@ -4,6 +4,7 @@ ghost use Rattle.quantity.specs.Refusals.{firstOf};
 ghost use Rattle.water.specs.Table.{water};
 ghost use Rattle.water.specs.Pair.{atPlace, areEqual, pairRows};
 use quantity::End;
+use quantity::LAST_HUNDREDTH;
 use quantity::Outcome;
 use quantity::Position;
 use quantity::Temperature;
@@ -28,7 +29,7 @@ pub(crate) fn are_equal(a: Temperature, b: Temperature) -> bool
 pub(crate) fn pair_refusal(ts: Temperature, tr: Temperature, place: u64) -> Outcome
     ensures { λ r. ⌜ r ≡ firstOf (pairRows water ts tr place) ⌝ }
 {
-    let top = Temperature::of_degrees(180);
+    let top = Temperature(LAST_HUNDREDTH);
     let supply_number = end_number(Position::Supply, End::High);
     let return_number = end_number(Position::Return, End::High);
     let r = Outcome::Accepted.or_row(is_outside(place, 1, 2), 11);

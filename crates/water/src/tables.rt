@@ -2,6 +2,7 @@
 ghost use mathlib.Core.Path.{_≡_};
 ghost use Rattle.water.specs.Table.{water, entryOf};
 use crate::answers::Entry;
+use quantity::LAST_DEGREE;
 
 // The specific enthalpy in mJ/kg.
 pub(crate) const ENTHALPY: [u32; 181] = [
@@ -377,7 +378,7 @@ pub(crate) const VOLUME: [u32; 181] = [
 pub fn table_entry(degree: u64) -> Entry
     ensures { λ r. ⌜ r ≡ entryOf water degree ⌝ }
 {
-    if degree <= 180 {
+    if degree <= LAST_DEGREE {
         let d = degree as usize;
         Entry::At {
             enthalpy: ENTHALPY[d] as u64,

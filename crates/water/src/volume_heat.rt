@@ -1,6 +1,7 @@
 // The heat of a volume (document 01, "Meter's step").
 ghost use mathlib.Core.Path.{_≡_};
 ghost use Prim.Native.Nat.{_≤_};
+ghost use Rattle.quantity.specs.Units.{lastHundredth};
 ghost use Rattle.water.specs.Table.{water};
 ghost use Rattle.quantity.specs.Fractions.{floored};
 ghost use Rattle.water.specs.Heat.{exactHeat, heatOf};
@@ -30,7 +31,7 @@ pub fn heat(u: u64, ts: Temperature, tr: Temperature, place: u64) -> Heat
 
 // The volume is measured at the third temperature.
 fn floored_heat(u: u64, warm: Temperature, cold: Temperature, measured: Temperature) -> u64
-    requires { ⌜ (u ≤ 1000000) × (cold .0 ≤ warm .0) × (warm .0 ≤ 18000) × (measured .0 ≤ 18000) ⌝ }
+    requires { ⌜ (u ≤ 1000000) × (cold .0 ≤ warm .0) × (warm .0 ≤ lastHundredth) × (measured .0 ≤ lastHundredth) ⌝ }
     ensures { λ r. ⌜ r ≡ floored (exactHeat water u warm cold measured) ⌝ }
 {
     scaled_quotient(1000000, u * enthalpy_rise(warm, cold), volume_at(measured))

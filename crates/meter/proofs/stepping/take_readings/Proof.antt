@@ -14,7 +14,7 @@ use Rattle.meter.proofs.stepping.take_readings.Tie as tie
 rows : (c : tie.After-reading-refusal) →
     c .reading-refusal .result ≡ firstOf (readingRows (c .before .before .before .args .m .card) (c .before .before .before .args .s))
 unfolding readingRows
-rows c = simp (c .reading-refusal .ensures, c .before .before .temperature .ensures, c .before .temperature2 .ensures)
+rows c = simp (c .reading-refusal .ensures, c .before .before .temperature .ensures .0, c .before .temperature2 .ensures .0)
 
 temperature-requires : tie.Need-temperature-requires
 temperature-requires c κs = search needs
@@ -39,8 +39,8 @@ take-pair-requires c κs =
     let d = c .before .before .before .before .before in
     record {
       counted = d .before .before .pre;
-      supply-is = c .before .temperature-or-missing .ensures ∙ ap temperatureOrMissing (d .before .temperature .ensures);
-      returned-is = c .temperature-or-missing2 .ensures ∙ ap temperatureOrMissing (d .temperature2 .ensures);
+      supply-is = c .before .temperature-or-missing .ensures ∙ ap temperatureOrMissing (d .before .temperature .ensures .0);
+      returned-is = c .temperature-or-missing2 .ensures ∙ ap temperatureOrMissing (d .temperature2 .ensures .0);
     }
 
 enum-known-refusal : tie.Need-enum-known-refusal

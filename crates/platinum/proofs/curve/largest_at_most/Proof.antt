@@ -10,13 +10,14 @@ use lib.Dec.{leb}
 use mathlib.Core.Path.{_≡_, refl, sym, _∙_, subst}
 use Prim.Native.Nat.{ℕ, _-_, _≤_}
 use native.Mathlib.Omega.{arith}
-use Rattle.platinum.specs.Temperature.{W, last, largest}
+use Rattle.quantity.specs.Units.{lastHundredth}
+use Rattle.platinum.specs.Temperature.{W, largest}
 use Rattle.platinum.proofs.Shares.{reaches, below-it, is-top}
 use Rattle.platinum.proofs.curve.largest_at_most.Statement.{statement}
 use Rattle.platinum.proofs.curve.largest_at_most.Tie as tie
 
 abbrev Inv-loop : tie.InvT-loop
-Inv-loop share low₀ high₀ low high = (low ≤ high) × (high ≤ last) × (W low ≤ share) × (largest (reaches share) last ≡ largest (reaches share) high)
+Inv-loop share low₀ high₀ low high = (low ≤ high) × (high ≤ lastHundredth) × (W low ≤ share) × (largest (reaches share) lastHundredth ≡ largest (reaches share) high)
 
 abbrev μ-loop : tie.MeasureT-loop
 μ-loop share low₀ high₀ low high = high - low

@@ -7,7 +7,8 @@ use Prim.Native.Nat.{ℕ, _*_, _≤_, _<_}
 use native.Mathlib.Omega.{arith}
 use lib.Dec.{ltb}
 use borrow.Author.Tests.{ltb-false}
-use Rattle.platinum.specs.Temperature.{W, last, scaled, ofResistance}
+use Rattle.quantity.specs.Units.{lastHundredth}
+use Rattle.platinum.specs.Temperature.{W, scaled, ofResistance}
 use Rattle.platinum.specs.declared.reading.Measured.the-variants.{At}
 use Rattle.platinum.proofs.Shares.{divided, by-division}
 use Rattle.platinum.proofs.reading.of_resistance.Statement.{statement}
@@ -20,11 +21,11 @@ not-low : (c : tie.Else1) → c .before .before .before .args .n * W 0 ≤ scale
 not-low c = ltb-false _ _ (low (c .before) ∙ c .if1 .left)
 
 high : (c : tie.After-product-less2) →
-    ltb (c .before .before .before .before .before .args .n * W last) (scaled (c .before .before .before .before .before .args .reading)) ≡ c .product-less2 .result
+    ltb (c .before .before .before .before .before .args .n * W lastHundredth) (scaled (c .before .before .before .before .before .args .reading)) ≡ c .product-less2 .result
 high c = cc
 
 not-high : (c : tie.Else2) →
-    scaled (c .before .before .before .before .before .before .args .reading) ≤ c .before .before .before .before .before .before .args .n * W last
+    scaled (c .before .before .before .before .before .before .args .reading) ≤ c .before .before .before .before .before .before .args .n * W lastHundredth
 not-high c = ltb-false _ _ (high (c .before) ∙ c .if2 .left)
 
 share-at-requires : tie.Need-share-at-requires

@@ -4,6 +4,7 @@ use borrow.Author.Needs.{needs}
 use mathlib.Core.Path.{_≡_, sym, _∙_}
 use Rattle.platinum.specs.Sensor.{resistanceOf, sensorOf}
 use Rattle.platinum.specs.Temperature.{temperatureOf}
+use Rattle.platinum.proofs.Answer.{by-itself}
 use Rattle.platinum.proofs.Resistances.{resistance-range}
 use Rattle.platinum.proofs.reading.temperature.Statement.{statement}
 use Rattle.platinum.proofs.reading.temperature.Tie as tie
@@ -27,11 +28,11 @@ returns : tie.Need-returns
 unfolding temperatureOf
 returns c =
     let d = c .before .before .before in
-    simp (sym (d .before .before .from-field .ensures) ∙ d .kind .given .1, c .of-resistance .ensures, c .before .resistance .ensures)
+    by-itself _ _ _ (simp (sym (d .before .before .from-field .ensures) ∙ d .kind .given .1, c .of-resistance .ensures, c .before .resistance .ensures))
 
 returns-2 : tie.Need-returns-2
 unfolding temperatureOf
-returns-2 c = simp (sym (c .before .before .from-field .ensures) ∙ c .enum-told .given .1)
+returns-2 c = by-itself _ _ _ (simp (sym (c .before .before .from-field .ensures) ∙ c .enum-told .given .1))
 
 pub temperature-spec : {M : Type 1} → statement M
 temperature-spec =

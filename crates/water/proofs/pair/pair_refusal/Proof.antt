@@ -7,9 +7,6 @@ use Rattle.water.specs.Pair.{pairRows}
 use Rattle.water.proofs.pair.pair_refusal.Statement.{statement}
 use Rattle.water.proofs.pair.pair_refusal.Tie as tie
 
-of-degrees-requires : tie.Need-of-degrees-requires
-of-degrees-requires c κs = search needs
-
 end-number-requires : tie.Need-end-number-requires
 end-number-requires c κs = search needs
 
@@ -46,7 +43,7 @@ returns c =
     let middle = last .before .before in
     let first = middle .before .before in
     let numbers = first .before .before in
-    let a = numbers .before .before .before .args in
+    let a = numbers .before .before .args in
     simp (
       c .or-row4 .ensures,
       c .before .is-below3 .ensures,
@@ -58,7 +55,6 @@ returns c =
       first .before .is-outside .ensures,
       numbers .end-number2 .ensures,
       numbers .before .end-number .ensures,
-      numbers .before .before .of-degrees .ensures,
     )
     (accumulated (pairRows water (a .ts) (a .tr) (a .place)))
 
@@ -66,7 +62,6 @@ pub pair-refusal-spec : {M : Type 1} → statement M
 pair-refusal-spec =
     tie.close
     (tie.spec
-    of-degrees-requires
     end-number-requires
     end-number-requires-2
     is-outside-requires

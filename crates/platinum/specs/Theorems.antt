@@ -1,0 +1,43 @@
+-- What is proved of the temperature's definition, statement by statement. Each is proved in proofs/ under its name in small letters.
+use mathlib.Core.Path.{_≡_}
+use Prim.Native.Nat.{ℕ, _≤_, _<_}
+use Rattle.quantity.specs.Refusals.{firstOf}
+use Rattle.quantity.specs.Units.{lastHundredth}
+use Rattle.quantity.specs.declared.units.Temperature.{Temperature}
+use Rattle.quantity.specs.declared.range.Position.the-variants.{Alone}
+use Rattle.platinum.specs.Temperature.{W, scaled, ofResistance, temperatureOf, HasTemperature, IsTemperature}
+use Rattle.platinum.specs.Refusal.{refusalOf, aloneRows}
+use Rattle.platinum.specs.declared.reading.Measured.the-variants.{At}
+
+-- W grows on 0..18000, so that a larger share of the resistance at 0 °C is a higher temperature
+abbrev pub Grows : Type 0
+Grows = (a b : ℕ) → a < b → b ≤ lastHundredth → W a < W b
+
+-- a temperature that is answered is that of the reading, and the reading has one
+abbrev pub Answered : Type 0
+Answered = (n r : ℕ) (t : Temperature) → ofResistance n r ≡ At t → HasTemperature n r × IsTemperature n r (t .0)
+
+-- a reading that has a temperature is answered one
+abbrev pub Exists : Type 0
+Exists = (n r : ℕ) → HasTemperature n r → (t : Temperature) × (ofResistance n r ≡ At t)
+
+-- there is at most one
+abbrev pub Unique : Type 0
+Unique = (n r s t : ℕ) → IsTemperature n r s → IsTemperature n r t → s ≡ t
+
+-- so the answer is whichever t is the temperature of the reading
+abbrev pub Exactly : Type 0
+Exactly = (n r : ℕ) (t : Temperature) → HasTemperature n r → IsTemperature n r (t .0) → ofResistance n r ≡ At t
+
+-- no answer passes 180.00 °C
+abbrev pub WithinRange : Type 0
+WithinRange = (field r : ℕ) (t : Temperature) → temperatureOf field r ≡ At t → t .0 ≤ lastHundredth
+
+-- a larger reading of the same sensor never has a smaller temperature
+abbrev pub LargerReading : Type 0
+LargerReading =
+    (field r r′ : ℕ) (s t : Temperature) → r ≤ r′ → temperatureOf field r ≡ At s → temperatureOf field r′ ≡ At t → s .0 ≤ t .0
+
+-- the number of an answer by itself is that of the first row of "Temperature alone" that applies
+abbrev pub FirstRow : Type 0
+FirstRow = (field r : ℕ) → refusalOf Alone (temperatureOf field r) ≡ firstOf (aloneRows field r)
