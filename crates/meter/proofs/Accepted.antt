@@ -27,6 +27,7 @@ use Rattle.meter.specs.State.{stateRows, largestRegister, largestVolume,
 use Rattle.meter.specs.Sample.{volumeOf, supplyOf, returnOf, temperatureOrMissing, ts, tr, sampleHeat}
 use Rattle.meter.specs.Step.{countRows, readingRows, rangeRows, limitRows}
 use Rattle.quantity.specs.Fractions.{floored}
+use Rattle.meter.specs.Theorems.{AcceptedHasTemperatures}
 use Rattle.meter.specs.declared.card.Card.{Card}
 use Rattle.meter.specs.declared.state.Meter.{Meter}
 use Rattle.meter.specs.declared.sample.Sample.{Sample}
@@ -144,13 +145,9 @@ has-temperature p (Outside Low) h = let z : _≡_ {A = ℕ} 0 1 = cc (h .0) in a
 has-temperature p (Outside High) h = let z : _≡_ {A = ℕ} 0 1 = cc (h .1 .0) in absurd (omega arith)
 has-temperature p NoSensor h = let z : _≡_ {A = ℕ} 0 1 = cc (h .0) in absurd (omega arith)
 
-pub record HasTemperatures (c : Card) (s : Sample) : Type 0 where
-  pub supply : (t : Temperature) × (supplyOf c s ≡ At t)
-  pub returned : (t : Temperature) × (returnOf c s ≡ At t)
-
-pub has-temperatures : (c : Card) (s : Sample) → NoneApplies (readingRows c s) → HasTemperatures c s
+pub accepted-has-temperatures : AcceptedHasTemperatures
 unfolding readingRows
-has-temperatures c s h =
+accepted-has-temperatures c s h =
     let p = none-of-parts (endRows Supply (supplyOf c s)) (endRows Return (returnOf c s)) h in
     record { supply = has-temperature Supply _ (p .0); returned = has-temperature Return _ (p .1) }
 

@@ -24,15 +24,10 @@ use Rattle.meter.specs.declared.state.FreshMeter.{FreshMeter}
 use Rattle.meter.specs.declared.sample.Sample.{Sample}
 use Rattle.meter.specs.declared.stepping.Stepped.{Stepped}
 use Rattle.meter.proofs.Accepted.{accepted-state, accepted-limits}
-use Rattle.meter.proofs.Answers.{Answers, accepts, refuses-sample, refuses-before, answered}
+use Rattle.meter.specs.Answers.{Answers, accepts, refuses-sample, refuses-before}
+use Rattle.meter.specs.Theorems.{WithinLimits, StaysWithinLimits, NoOtherRefusal, countsOf, countedOf, Counted}
+use Rattle.meter.proofs.Answers.{answered}
 use Rattle.meter.proofs.Theorem.{fresh-zeros}
-
--- a meter whose card is accepted and that row 20 does not refuse
-pub record WithinLimits (m : Meter) : Type 0 where
-  pub card : firstOf (cardRows (m .card)) ≡ Accepted
-  pub register : m .register ≤ largestRegister
-  pub volume : m .volume ≤ largestVolume
-  pub counts : m .accepted + m .refused ≤ largestCount
 
 -- the counts have room where no row of card or state refuses
 pub room : (m : Meter) → firstOf (cardAndStateRows m) ≡ Accepted → m .accepted + m .refused < largestCount
@@ -53,8 +48,8 @@ within-along g none = g
 within-along g (step {m = m} s a p rest) = within-along (within-after m s a (answered m s a p) g) rest
 
 -- register and volume never pass their limits from a fresh meter
-pub within-limits : (c : Card) (m : Meter) → freshOf c ≡ FreshMeter.Made m → (ks : List Mark) (z : Meter) → Calls m ks z → WithinLimits z
-within-limits c m e ks z calls =
+pub stays-within-limits : StaysWithinLimits
+stays-within-limits c m e ks z calls =
     let f = fresh-zeros c m e in
     within-along (subst WithinLimits (f .1) (record { card = f .0; register = omega arith; volume = omega arith; counts = omega arith })) calls
 
@@ -99,18 +94,8 @@ by-answer m s a n (refuses-before k f) g e =
     let same : k ≡ n = cc in
     inl (sym same ∙ only-21 m k g f)
 
-pub no-other-refusal : (c : Card) (m : Meter) → freshOf c ≡ FreshMeter.Made m → (ks : List Mark) (z : Meter) → Calls m ks z →
-    (s : Sample) (n : ℕ) → stepOf z s .outcome ≡ Refused n → (n ≡ 21) ⊎ (30 ≤ n)
-no-other-refusal c m e ks z calls s n f = by-answer z s (stepOf z s) n (answered z s (stepOf z s) refl) (within-limits c m e ks z calls) f
-
--- how many of the calls were not refused by 21
-abbrev pub countsOf : Outcome → ℕ
-countsOf Accepted = 1
-countsOf (Refused n) = cond (eqb n 21) 0 1
-
-abbrev pub countedOf : {m z : Meter} {ks : List Mark} → Calls m ks z → ℕ
-countedOf none = 0
-countedOf (step s a p rest) = countsOf (a .outcome) + countedOf rest
+pub no-other-refusal : NoOtherRefusal
+no-other-refusal c m e ks z calls s n f = by-answer z s (stepOf z s) n (answered z s (stepOf z s) refl) (stays-within-limits c m e ks z calls) f
 
 pub one-more : (m : Meter) (s : Sample) (a : Stepped) → Answers m s a → WithinLimits m →
     a .meter .accepted + a .meter .refused ≡ m .accepted + m .refused + countsOf (a .outcome)
@@ -125,7 +110,7 @@ counted-along g (step {m = m} s a p rest) =
     omega (arith, counted-along (within-after m s a h g) rest, one-more m s a h g)
 
 -- accepted plus refused is the number of calls not refused by 21
-pub counted : (c : Card) (m : Meter) → freshOf c ≡ FreshMeter.Made m → (ks : List Mark) (z : Meter) (calls : Calls m ks z) → z .accepted + z .refused ≡ countedOf calls
+pub counted : Counted
 counted c m e ks z calls =
     let f = fresh-zeros c m e in
-    omega (arith, counted-along (within-limits c m e [] m none) calls, ap (λ (x : Meter). x .accepted + x .refused) (f .1))
+    omega (arith, counted-along (stays-within-limits c m e [] m none) calls, ap (λ (x : Meter). x .accepted + x .refused) (f .1))

@@ -14,18 +14,11 @@ use Rattle.meter.specs.Card.{cardRows}
 use Rattle.meter.specs.State.{stateRows}
 use Rattle.meter.specs.Step.{countRows, readingRows, rangeRows, limitRows, sampleRows, accepting, refusing, bySample, byCardAndState, cardAndStateRows, stepOf}
 use Rattle.meter.specs.Calls.{isAccepted}
+use Rattle.meter.specs.Answers.{NoRowRefuses, Answers, accepts, refuses-sample, refuses-before}
+use Rattle.meter.specs.Theorems.{StepAnswers, AcceptedExactly}
 use Rattle.meter.specs.declared.state.Meter.{Meter}
 use Rattle.meter.specs.declared.sample.Sample.{Sample}
 use Rattle.meter.specs.declared.stepping.Stepped.{Stepped}
-
--- no row refuses the sample
-pub record NoRowRefuses (m : Meter) (s : Sample) : Type 0 where
-  pub card : NoneApplies (cardRows (m .card))
-  pub state : NoneApplies (stateRows m)
-  pub count : NoneApplies (countRows (m .card) s)
-  pub reading : NoneApplies (readingRows (m .card) s)
-  pub range : NoneApplies (rangeRows (m .card) s)
-  pub limit : NoneApplies (limitRows m s)
 
 no-row-refuses : (m : Meter) (s : Sample) → NoneApplies (cardAndStateRows m) → NoneApplies (sampleRows m s) → NoRowRefuses m s
 no-row-refuses m s h g =
@@ -35,13 +28,6 @@ no-row-refuses m s h g =
     let t = none-of-parts (rangeRows (m .card) s) (limitRows m s) (r .1) in
     record { card = p .0; state = p .1; count = q .0; reading = r .0; range = t .0; limit = t .1 }
 
--- What the step answers: it accepts exactly where no row refuses; a sample's row counts one more refused; a row of card or state leaves
--- the meter unchanged.
-pub data Answers (m : Meter) (s : Sample) : Stepped → Type 0 where
-  accepts : NoRowRefuses m s → Answers m s (record { meter = accepting m s; outcome = Accepted })
-  refuses-sample : (n : ℕ) → firstOf (cardAndStateRows m) ≡ Accepted → firstOf (sampleRows m s) ≡ Refused n → Answers m s (record { meter = refusing m; outcome = Refused n })
-  refuses-before : (n : ℕ) → firstOf (cardAndStateRows m) ≡ Refused n → Answers m s (record { meter = m; outcome = Refused n })
-
 by-sample : (m : Meter) (s : Sample) (o : Outcome) → firstOf (cardAndStateRows m) ≡ Accepted → firstOf (sampleRows m s) ≡ o → Answers m s (bySample m s o)
 by-sample m s Accepted e f = accepts (no-row-refuses m s (none-applies (cardAndStateRows m) e) (none-applies (sampleRows m s) f))
 by-sample m s (Refused n) e f = refuses-sample n e f
@@ -50,12 +36,12 @@ by-card-and-state : (m : Meter) (s : Sample) (o : Outcome) → firstOf (cardAndS
 by-card-and-state m s Accepted e = by-sample m s _ e refl
 by-card-and-state m s (Refused n) e = refuses-before n e
 
-pub answers : (m : Meter) (s : Sample) → Answers m s (stepOf m s)
+pub step-answers : StepAnswers
 unfolding stepOf
-answers m s = by-card-and-state m s _ refl
+step-answers m s = by-card-and-state m s _ refl
 
 pub answered : (m : Meter) (s : Sample) (a : Stepped) → a ≡ stepOf m s → Answers m s a
-answered m s a p = subst (λ (x : Stepped). Answers m s x) (sym p) (answers m s)
+answered m s a p = subst (λ (x : Stepped). Answers m s x) (sym p) (step-answers m s)
 
 -- a sample is accepted exactly when no row refuses it
 when-accepted : (m : Meter) (s : Sample) (a : Stepped) → Answers m s a → isAccepted (a .outcome) ≡ true → NoRowRefuses m s
@@ -73,8 +59,8 @@ not-refused m s h =
           (none-together (readingRows (m .card) s) _ (h .reading) (none-together (rangeRows (m .card) s) (limitRows m s) (h .range) (h .limit)))),
     )
 
-pub accepted-exactly : (m : Meter) (s : Sample) → (isAccepted (stepOf m s .outcome) ≡ true) ↔ NoRowRefuses m s
+pub accepted-exactly : AcceptedExactly
 accepted-exactly m s = (
-  when-accepted m s (stepOf m s) (answers m s),
+  when-accepted m s (stepOf m s) (step-answers m s),
   λ h. ap (λ (a : Stepped). isAccepted (a .outcome)) (not-refused m s h),
 )

@@ -10,7 +10,7 @@ use Rattle.water.specs.Heat.{heatOf}
 use Rattle.water.proofs.Accepted.{heat-accepted}
 use Rattle.water.specs.declared.answers.Heat.the-variants.{Millijoules, Refused}
 use Rattle.meter.specs.Sample.{volumeOf, ts, tr, sampleHeat}
-use Rattle.meter.specs.Stages.{Ranged}
+use Rattle.meter.specs.inside.Stages.{Ranged}
 use Rattle.meter.specs.declared.state.Meter.{Meter}
 use Rattle.meter.specs.declared.sample.Sample.{Sample}
 use Rattle.meter.proofs.Accepted.{accepted-card, accepted-counts, accepted-pair, temperature-at-most}

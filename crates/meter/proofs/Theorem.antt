@@ -1,4 +1,4 @@
--- Demand 3, proved: `register` is the statement `RegisterBounds` of specs/Register.antt.
+-- Demand 3, proved: `register` is the statement `RegisterBounds` of specs/Theorems.antt.
 -- Assumes nothing.
 use mathlib.Core.Path.{_≡_, refl, sym, _∙_, ap, subst}
 use mathlib.Core.List.{List, [], _∷_}
@@ -16,27 +16,28 @@ use Rattle.quantity.specs.Fractions.{IsFraction, plus}
 use Rattle.quantity.specs.declared.fraction.Fraction.{Fraction}
 use Rattle.water.specs.Heat.{exactHeat}
 use Rattle.water.proofs.Bounds.{water-bounded}
-use Rattle.water.proofs.ExactHeats as Exact
+use Rattle.water.proofs.ExactHeats.{heat-is-fraction, no-volume-no-heat, at-least-2000}
 use Rattle.meter.specs.Card.{cardRows}
 use Rattle.meter.specs.State.{freshOf, freshAnswer, zeros}
 use Rattle.meter.specs.Sample.{volumeOf, hasVolume, ts, tr, sampleHeat}
 use Rattle.meter.specs.Step.{accepting, refusing, stepOf}
 use Rattle.meter.specs.Sum.{Mark, heatSamples, nothing, sumFrom, allowanceFrom, WithinBounds}
 use Rattle.meter.specs.Calls.{Calls, none, step, isAccepted, markOf}
-use Rattle.meter.specs.Register.{RegisterBounds}
+use Rattle.meter.specs.Answers.{NoRowRefuses, Answers, accepts, refuses-sample, refuses-before}
+use Rattle.meter.specs.Theorems.{RegisterBounds, FreshMade, FreshZeros, CardAlong, SampleHeatIsFraction, Raises}
 use Rattle.meter.specs.declared.card.Card.{Card}
 use Rattle.meter.specs.declared.state.Meter.{Meter}
 use Rattle.meter.specs.declared.state.FreshMeter.{FreshMeter}
 use Rattle.meter.specs.declared.sample.Sample.{Sample}
 use Rattle.meter.specs.declared.stepping.Stepped.{Stepped}
 use Rattle.meter.proofs.Keeping.{HeatBounds, start, keep}
-use Rattle.meter.proofs.Answers.{NoRowRefuses, Answers, accepts, refuses-sample, refuses-before, answered, not-refused, accepted-exactly}
+use Rattle.meter.proofs.Answers.{answered, not-refused, accepted-exactly}
 use Rattle.meter.proofs.Accepted.{accepted-card, accepted-pair, temperature-at-most}
 
 -- the exact heat's lower number is above zero, also where a sample has no temperature
-pub is-fraction : (c : Card) (s : Sample) → IsFraction (sampleHeat c s)
+pub sample-heat-is-fraction : SampleHeatIsFraction
 unfolding sampleHeat
-is-fraction c s = Exact.is-fraction water water-bounded _ _ _ _
+sample-heat-is-fraction c s = heat-is-fraction water water-bounded _ _ _ _
 
 -- the exact heat of an accepted sample
 heat-bounds : (m : Meter) (s : Sample) → NoRowRefuses m s → HeatBounds (hasVolume (m .card) s) (sampleHeat (m .card) s)
@@ -46,12 +47,12 @@ heat-bounds m s h =
     let card = accepted-card c (h .card) in
     let pair = accepted-pair c s (h .range) in
     record {
-      is-fraction = is-fraction c s;
+      is-fraction = sample-heat-is-fraction c s;
       none = λ e.
           let no-volume : volumeOf c s ≡ 0 = omega (arith, ltb-false 0 (volumeOf c s) e) in
-          rw no-volume (Exact.nothing water _ _ _);
+          rw no-volume (no-volume-no-heat water _ _ _);
       least = λ e.
-          Exact.at-least-2000 water water-bounded _ _ _ _ (ltb-true _ _ e) (omega (arith, pair .apart, card .delta-min .0)) (temperature-at-most _ _);
+          at-least-2000 water water-bounded _ _ _ _ (ltb-true _ _ e) (omega (arith, pair .apart, card .delta-min .0)) (temperature-at-most _ _);
     }
 
 -- the bounds after one call more
@@ -79,21 +80,24 @@ from c n sum e b (step {m = m} s a p rest) =
     let h = answered m s a p in
     from c _ _ (same-card m s a h ∙ e) (subst (λ (x : Card). After x s a n sum) e (one m s a n sum h b)) rest
 
-pub card-along : {m z : Meter} {ks : List Mark} → Calls m ks z → z .card ≡ m .card
-card-along none = refl
-card-along (step {m = m} s a p rest) = card-along rest ∙ same-card m s a (answered m s a p)
+card-of : {m z : Meter} {ks : List Mark} → Calls m ks z → z .card ≡ m .card
+card-of none = refl
+card-of (step {m = m} s a p rest) = card-of rest ∙ same-card m s a (answered m s a p)
+
+pub card-along : CardAlong
+card-along m ks z calls = card-of calls
 
 -- a fresh meter is that of an accepted card, with zeros
 by-card : (c : Card) (m : Meter) (o : Outcome) → freshAnswer o (zeros c) ≡ FreshMeter.Made m → (o ≡ Accepted) × (zeros c ≡ m)
 by-card c m Accepted e = (refl, cc)
 by-card c m (Refused n) e = let z : _≡_ {A = ℕ} 0 1 = cc in absurd (omega arith)
 
-pub fresh-zeros : (c : Card) (m : Meter) → freshOf c ≡ FreshMeter.Made m → (firstOf (cardRows c) ≡ Accepted) × (zeros c ≡ m)
+pub fresh-zeros : FreshZeros
 unfolding freshOf
 fresh-zeros c m e = by-card c m _ e
 
 -- and every accepted card has one
-pub fresh-made : (c : Card) → firstOf (cardRows c) ≡ Accepted → freshOf c ≡ FreshMeter.Made (zeros c)
+pub fresh-made : FreshMade
 unfolding freshOf
 fresh-made c e = ap (λ (o : Outcome). freshAnswer o (zeros c)) e
 
@@ -103,7 +107,7 @@ register c m e ks z calls =
     from c 0 nothing (sym (ap (λ (x : Meter). x .card) m-is)) (subst (λ (x : Meter). WithinBounds (x .register) 0 nothing) m-is start) calls
 
 -- an accepted sample with a volume raises the register
-pub raises : (m : Meter) (s : Sample) → isAccepted (stepOf m s .outcome) ≡ true → hasVolume (m .card) s ≡ true → m .register < stepOf m s .meter .register
+pub raises : Raises
 raises m s e v =
     let none-refuses = accepted-exactly m s .0 e in
     let w = heat-bounds m s none-refuses in

@@ -3,8 +3,9 @@ pub mod Card
 pub mod State
 pub mod Sample
 pub mod Step
-pub mod Stages
 pub mod Sum
 pub mod Calls
-pub mod Register
 pub mod Run
+pub mod Answers
+pub mod Theorems
+pub mod inside

@@ -17,7 +17,7 @@ ghost use Rattle.platinum.specs.Refusal.{endRows};
 ghost use Rattle.meter.specs.Card.{cardRows};
 ghost use Rattle.meter.specs.Sample.{temperatureOrMissing};
 ghost use Rattle.meter.specs.Step.{outsideTheta, countRows, rangeRows};
-ghost use Rattle.meter.specs.Stages.{Paired};
+ghost use Rattle.meter.specs.inside.Stages.{Paired};
 
 // What the flow sensor and the temperature sensor pair gave in some seconds. Any content can stand here.
 pub struct Sample {

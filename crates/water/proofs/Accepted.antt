@@ -9,15 +9,10 @@ use Rattle.quantity.specs.declared.units.Temperature.{Temperature}
 use Rattle.quantity.specs.Refusals.{outside}
 use Rattle.quantity.proofs.Rows.{no-refusal}
 use Rattle.water.specs.Table.{Table}
-use Rattle.water.specs.Pair.{atPlace}
-use Rattle.quantity.specs.Fractions.{floored}
-use Rattle.water.specs.Heat.{exactHeat, heatRows, heatOf}
-use Rattle.water.specs.declared.answers.Heat.{Heat}
+use Rattle.water.specs.Heat.{heatRows, heatOf}
+use Rattle.water.specs.Theorems.{HeatAccepted}
 
-pub heat-accepted :
-    (w : Table) (u : ℕ) (ts tr : Temperature) (place : ℕ) →
-    outside place 1 2 ≡ false → ts .0 ≤ 100 * w .last → tr .0 ≤ ts .0 → u ≤ 1000000 →
-    heatOf w u ts tr place ≡ Heat.Millijoules (floored (exactHeat w u ts tr (atPlace place ts tr)))
+pub heat-accepted : HeatAccepted
 unfolding heatOf
 heat-accepted w u ts tr place p q r s =
     simp (

@@ -9,16 +9,9 @@ use lib.Dec.{T, leb, leb→le}
 use lib.ListN.{getD}
 use Rattle.quantity.proofs.Span.{span, below}
 use Rattle.water.specs.Table.{Table, water}
-use Rattle.water.proofs.Lists.{enthalpies, volumes}
-use Rattle.water.proofs.Entries.{Right, water-right}
-
--- h in mJ/kg grows by at least 4,100,000 per degree and is at most 800,000,000; v in 10^-12 m³/kg is at least 900,000,000
--- and at most 1,130,000,000
-pub record Bounded (w : Table) : Type 0 where
-  pub grows : (d : ℕ) → d < w .last → w .enthalpyOf d + 4100000 ≤ w .enthalpyOf (d + 1)
-  pub most-enthalpy : (d : ℕ) → d ≤ w .last → w .enthalpyOf d ≤ 800000000
-  pub least-volume : (d : ℕ) → d ≤ w .last → 900000000 ≤ w .volumeOf d
-  pub most-volume : (d : ℕ) → d ≤ w .last → w .volumeOf d ≤ 1130000000
+use Rattle.water.specs.inside.Lists.{enthalpies, volumes}
+use Rattle.water.specs.Theorems.{Right, TableBounds, WaterBounded}
+use Rattle.water.proofs.Entries.{water-right}
 
 -- the test that f is at most g at the first n numbers
 abbrev pub inOrder : (ℕ → ℕ) → (ℕ → ℕ) → ℕ → Bool
@@ -37,7 +30,7 @@ pub bounded :
     T (inOrder (at hs) (λ d. 800000000) (suc (w .last))) →
     T (inOrder (λ d. 900000000) (at vs) (suc (w .last))) →
     T (inOrder (at vs) (λ d. 1130000000) (suc (w .last))) →
-    Bounded w
+    TableBounds w
 bounded w hs vs r s t k m = record {
   grows = λ d l.
       omega (
@@ -51,6 +44,6 @@ bounded w hs vs r s t k m = record {
   most-volume = λ d l. omega (arith, r .volume d l, in-order (at vs) (λ d. 1130000000) (suc (w .last)) m d (omega arith));
 }
 
-pub water-bounded : Bounded water
+pub water-bounded : WaterBounded
 unfolding enthalpies volumes
 water-bounded = bounded water enthalpies volumes water-right tt tt tt tt

@@ -13,17 +13,13 @@ use Rattle.quantity.proofs.Span.{span, below, join}
 use Rattle.water.specs.If97.{enthalpy, volume}
 use Rattle.water.specs.Table.{Table, enthalpyEntry, volumeEntry, water}
 use Rattle.water.specs.Interpolation.{interpolated}
+use Rattle.water.specs.Theorems.{Right, WaterRight}
 use Rattle.water.proofs.Interpolated.{alike}
-use Rattle.water.proofs.Lists.{enthalpies, volumes}
+use Rattle.water.specs.inside.Lists.{enthalpies, volumes}
 
 -- the test: both entries of a degree are the table's
 unfoldable pub isRight : Table → List ℕ → List ℕ → ℕ → Bool
 isRight w hs vs d = eqb (getD hs d 0) (w .enthalpyOf d) && eqb (getD vs d 0) (w .volumeOf d)
-
--- the rule, at every degree
-pub record Right (w : Table) (hs vs : List ℕ) : Type 0 where
-  pub enthalpy : (d : ℕ) → d ≤ w .last → getD hs d 0 ≡ w .enthalpyOf d
-  pub volume : (d : ℕ) → d ≤ w .last → getD vs d 0 ≡ w .volumeOf d
 
 pub right : (w : Table) (hs vs : List ℕ) → T (span (isRight w hs vs) 0 (suc (w .last))) → Right w hs vs
 unfolding isRight
@@ -43,7 +39,7 @@ warmer : T (span (isRight water enthalpies volumes) 90 91)
 unfolding isRight enthalpies volumes enthalpyEntry volumeEntry enthalpy volume
 warmer = tt
 
-pub water-right : Right water enthalpies volumes
+pub water-right : WaterRight
 water-right = right water enthalpies volumes (join (isRight water enthalpies volumes) 90 91 0 cooler warmer)
 
 -- where the entries are right, so is what lies between them

@@ -4,7 +4,6 @@ pub mod Bounds
 pub mod Entries
 pub mod ExactHeats
 pub mod Interpolated
-pub mod Lists
 pub mod Passed
 pub mod Properties
 pub mod Verification

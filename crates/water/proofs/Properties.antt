@@ -5,10 +5,10 @@ use native.Mathlib.Omega.{arith}
 use Rattle.quantity.specs.declared.units.Temperature.{Temperature}
 use Rattle.water.specs.Table.{Table}
 use Rattle.water.specs.Interpolation.{enthalpyAt, volumeAt}
-use Rattle.water.proofs.Bounds.{Bounded}
+use Rattle.water.specs.Theorems.{TableBounds}
 use Rattle.water.proofs.Interpolated.{lies, apart}
 
-module _ (w : Table) (k : Bounded w) where
+module _ (w : Table) (k : TableBounds w) where
   -- h grows by at least 4,100,000 mJ/kg per degree: H by as much for each hundredth of a degree
   enthalpy-apart :
       (a b : Temperature) → b .0 ≤ a .0 → a .0 ≤ 100 * w .last →

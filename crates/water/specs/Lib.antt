@@ -6,3 +6,6 @@ pub mod Interpolation
 pub mod Pair
 pub mod Coefficient
 pub mod Heat
+pub mod Verification
+pub mod Theorems
+pub mod inside

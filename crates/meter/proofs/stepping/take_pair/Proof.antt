@@ -4,7 +4,7 @@ use borrow.Author.Needs.{needs}
 use mathlib.Core.Path.{refl}
 use native.Mathlib.Omega.{arith}
 use Rattle.meter.specs.Sample.{volumeOf}
-use Rattle.meter.specs.Stages.{Paired}
+use Rattle.meter.specs.inside.Stages.{Paired}
 use Rattle.meter.specs.Step.{rangeRows, limitRows}
 use Rattle.meter.proofs.Accepted.{accepted-counts}
 use Rattle.meter.proofs.Stages.{passed, goes-on, stops, countable}

@@ -6,7 +6,7 @@ use Prim.Native.Nat.{_-_}
 use native.Mathlib.Omega.{arith}
 use Rattle.water.specs.Table.{water}
 use Rattle.water.specs.Interpolation.{enthalpyAt}
-use Rattle.water.proofs.Lists.{enthalpies, volumes}
+use Rattle.water.specs.inside.Lists.{enthalpies, volumes}
 use Rattle.water.proofs.Entries.{water-right, enthalpy-between}
 use Rattle.water.proofs.Bounds.{water-bounded}
 use Rattle.water.proofs.Properties.{enthalpy-in-order}

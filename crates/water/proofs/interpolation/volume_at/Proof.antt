@@ -3,7 +3,7 @@
 use borrow.Author.Needs.{needs}
 use mathlib.Core.Path.{_∙_}
 use Rattle.water.specs.Table.{water}
-use Rattle.water.proofs.Lists.{enthalpies, volumes}
+use Rattle.water.specs.inside.Lists.{enthalpies, volumes}
 use Rattle.water.proofs.Entries.{water-right, volume-between}
 use Rattle.water.proofs.interpolation.volume_at.Statement.{statement}
 use Rattle.water.proofs.interpolation.volume_at.Tie as tie

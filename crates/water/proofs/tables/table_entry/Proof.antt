@@ -6,7 +6,7 @@ use mathlib.Core.Path.{ap₂}
 use native.Mathlib.Omega.{arith}
 use Rattle.water.specs.Table.{entryOf}
 use Rattle.water.specs.declared.answers.Entry.the-variants.{At}
-use Rattle.water.proofs.Lists.{enthalpies, volumes}
+use Rattle.water.specs.inside.Lists.{enthalpies, volumes}
 use Rattle.water.proofs.Entries.{water-right}
 use Rattle.water.proofs.Bounds.{water-bounded}
 use Rattle.water.proofs.tables.table_entry.Statement.{statement}

@@ -1,5 +1,4 @@
 -- The two constant arrays of src/tables.rt, as lists.
--- Assumes nothing.
 use mathlib.Core.List.{List, [], _∷_}
 use Prim.Native.Nat.{ℕ}
 

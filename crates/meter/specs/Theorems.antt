@@ -1,0 +1,115 @@
+-- What is proved of the meter, statement by statement, demand 3 first. Each is proved in proofs/ under its name in small letters (`register` is
+-- `RegisterBounds`).
+use mathlib.Core.Path.{_≡_}
+use mathlib.Core.List.{List}
+use mathlib.Core.Bool.{true, cond}
+use mathlib.Core.Logic.{_↔_, _⊎_}
+use Prim.Native.Nat.{ℕ, _+_, _≤_, _<_}
+use lib.Dec.{eqb}
+use Rattle.quantity.specs.Fractions.{IsFraction}
+use Rattle.quantity.specs.Refusals.{firstOf, NoneApplies}
+use Rattle.quantity.specs.declared.units.Temperature.{Temperature}
+use Rattle.quantity.specs.declared.refusal.Outcome.{Outcome}
+use Rattle.quantity.specs.declared.refusal.Outcome.the-variants.{Accepted, Refused}
+use Rattle.platinum.specs.declared.reading.Measured.the-variants.{At}
+use Rattle.meter.specs.Card.{cardRows}
+use Rattle.meter.specs.State.{freshOf, zeros, largestRegister, largestVolume, largestCount}
+use Rattle.meter.specs.Sample.{hasVolume, supplyOf, returnOf, sampleHeat}
+use Rattle.meter.specs.Step.{readingRows, stepOf}
+use Rattle.meter.specs.Sum.{Mark, heatSamples, sumOf, allowanceOf, WithinBounds}
+use Rattle.meter.specs.Calls.{Calls, none, step, isAccepted}
+use Rattle.meter.specs.Run.{samplesOf, marksOf, lastOf}
+use Rattle.meter.specs.Answers.{NoRowRefuses, Answers}
+use Rattle.meter.specs.declared.card.Card.{Card}
+use Rattle.meter.specs.declared.state.Meter.{Meter}
+use Rattle.meter.specs.declared.state.FreshMeter.{FreshMeter}
+use Rattle.meter.specs.declared.sample.Sample.{Sample}
+
+-- Demand 3, the register: for every accepted card and every list of step calls from its fresh meter, refused ones included: with the
+-- sum of the accepted samples' heat in exact fractions, the register is not above the sum, not below it by more than 1 mJ for each
+-- accepted sample with a volume, and not below it by more than a two-thousandth of the sum.
+abbrev pub RegisterBounds : Type 0
+RegisterBounds =
+    (c : Card) (m : Meter) → freshOf c ≡ FreshMeter.Made m → (ks : List Mark) (z : Meter) → Calls m ks z →
+    WithinBounds (z .register) (allowanceOf (heatSamples c) ks) (sumOf (heatSamples c) ks)
+
+-- It speaks of every list of samples: such calls exist, leave marks of these samples, and their marks and their last meter are the only ones.
+abbrev pub Exist : Type 0
+Exist = (m : Meter) (ss : List Sample) → Calls m (marksOf m ss) (lastOf m ss)
+
+abbrev pub Given : Type 0
+Given = (m : Meter) (ss : List Sample) → samplesOf (marksOf m ss) ≡ ss
+
+abbrev pub OnlyMarks : Type 0
+OnlyMarks = (m : Meter) (ks : List Mark) (z : Meter) → Calls m ks z → ks ≡ marksOf m (samplesOf ks)
+
+abbrev pub OnlyLast : Type 0
+OnlyLast = (m : Meter) (ks : List Mark) (z : Meter) → Calls m ks z → z ≡ lastOf m (samplesOf ks)
+
+-- Every accepted card has a fresh meter, and a fresh meter is that of an accepted card, with zeros.
+abbrev pub FreshMade : Type 0
+FreshMade = (c : Card) → firstOf (cardRows c) ≡ Accepted → freshOf c ≡ FreshMeter.Made (zeros c)
+
+abbrev pub FreshZeros : Type 0
+FreshZeros = (c : Card) (m : Meter) → freshOf c ≡ FreshMeter.Made m → (firstOf (cardRows c) ≡ Accepted) × (zeros c ≡ m)
+
+-- the card never changes along the calls
+abbrev pub CardAlong : Type 0
+CardAlong = (m : Meter) (ks : List Mark) (z : Meter) → Calls m ks z → z .card ≡ m .card
+
+-- the exact heat is a fraction for any sample, also for one without a temperature
+abbrev pub SampleHeatIsFraction : Type 0
+SampleHeatIsFraction = (c : Card) (s : Sample) → IsFraction (sampleHeat c s)
+
+-- but no such sample is accepted: both readings of one that rows 32 and 33 do not refuse have a temperature
+pub record HasTemperatures (c : Card) (s : Sample) : Type 0 where
+  pub supply : (t : Temperature) × (supplyOf c s ≡ At t)
+  pub returned : (t : Temperature) × (returnOf c s ≡ At t)
+
+abbrev pub AcceptedHasTemperatures : Type 0
+AcceptedHasTemperatures = (c : Card) (s : Sample) → NoneApplies (readingRows c s) → HasTemperatures c s
+
+-- an accepted sample with a volume raises the register
+abbrev pub Raises : Type 0
+Raises =
+    (m : Meter) (s : Sample) → isAccepted (stepOf m s .outcome) ≡ true → hasVolume (m .card) s ≡ true →
+    m .register < stepOf m s .meter .register
+
+-- every answer of the step is one of the cases of specs/Answers.antt, and a sample is accepted exactly when no row refuses it
+abbrev pub StepAnswers : Type 0
+StepAnswers = (m : Meter) (s : Sample) → Answers m s (stepOf m s)
+
+abbrev pub AcceptedExactly : Type 0
+AcceptedExactly = (m : Meter) (s : Sample) → (isAccepted (stepOf m s .outcome) ≡ true) ↔ NoRowRefuses m s
+
+-- a meter whose card is accepted and that row 20 does not refuse
+pub record WithinLimits (m : Meter) : Type 0 where
+  pub card : firstOf (cardRows (m .card)) ≡ Accepted
+  pub register : m .register ≤ largestRegister
+  pub volume : m .volume ≤ largestVolume
+  pub counts : m .accepted + m .refused ≤ largestCount
+
+-- register and volume never pass their limits along the calls from a fresh meter
+abbrev pub StaysWithinLimits : Type 0
+StaysWithinLimits = (c : Card) (m : Meter) → freshOf c ≡ FreshMeter.Made m → (ks : List Mark) (z : Meter) → Calls m ks z → WithinLimits z
+
+-- so after any calls from a fresh meter the step refuses with 21 or with a number of the sample's rows
+abbrev pub NoOtherRefusal : Type 0
+NoOtherRefusal =
+    (c : Card) (m : Meter) → freshOf c ≡ FreshMeter.Made m → (ks : List Mark) (z : Meter) → Calls m ks z →
+    (s : Sample) (n : ℕ) → stepOf z s .outcome ≡ Refused n → (n ≡ 21) ⊎ (30 ≤ n)
+
+-- how many of the calls were not refused by 21
+abbrev pub countsOf : Outcome → ℕ
+countsOf Accepted = 1
+countsOf (Refused n) = cond (eqb n 21) 0 1
+
+abbrev pub countedOf : {m z : Meter} {ks : List Mark} → Calls m ks z → ℕ
+countedOf none = 0
+countedOf (step s a p rest) = countsOf (a .outcome) + countedOf rest
+
+-- accepted plus refused is that number
+abbrev pub Counted : Type 0
+Counted =
+    (c : Card) (m : Meter) → freshOf c ≡ FreshMeter.Made m → (ks : List Mark) (z : Meter) (calls : Calls m ks z) →
+    z .accepted + z .refused ≡ countedOf calls
