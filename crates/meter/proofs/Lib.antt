@@ -7,6 +7,5 @@ pub mod Answers
 pub mod Counts
 pub mod Elements
 pub mod Existence
-pub mod Runs
 pub mod Stages
 pub mod Theorem

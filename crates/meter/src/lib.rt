@@ -1,6 +1,5 @@
 // The meter: its card, its state, and the step that takes one sample (document 01, "Card" and "Meter's step").
 mod card;
-mod running;
 mod sample;
 mod state;
 mod stepping;

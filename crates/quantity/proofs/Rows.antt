@@ -6,13 +6,9 @@ use mathlib.Core.Bool.{Bool, true, false, cond}
 use Prim.Native.Nat.{ℕ}
 use native.Mathlib.Omega.{arith}
 use Rattle.quantity.specs.Refusals.{Row, row, firstOf, NoneApplies, orRow}
+use Rattle.quantity.specs.Theorems.{after, Accumulated, NoRefusalExactly}
 use Rattle.quantity.specs.declared.refusal.Outcome.{Outcome}
 use Rattle.quantity.specs.declared.refusal.Outcome.the-variants.{Accepted, Refused}
-
--- row after row, from an outcome on
-abbrev pub after : Outcome → List Row → Outcome
-after o [] = o
-after o (r ∷ rs) = after (orRow o (r .condition) (r .number)) rs
 
 -- a refusal stands, whatever rows follow
 stands : (n : ℕ) (rs : List Row) → after (Refused n) rs ≡ Refused n
@@ -25,13 +21,12 @@ unfolding orRow firstOf
 one-more true n rs e = stands n rs
 one-more false n rs e = e
 
--- all rows taken in order from no refusal on, the outcome is the first row's that refuses
-pub accumulated : (rs : List Row) → after Accepted rs ≡ firstOf rs
+pub accumulated : Accumulated
 unfolding firstOf
 accumulated [] = refl
 accumulated (r ∷ rs) = one-more (r .condition) (r .number) rs (accumulated rs)
 
--- no refusal is given exactly where no row applies
+-- what no refusal says of the first row and of the others
 passes : (b : Bool) (n : ℕ) (o : Outcome) → cond b (Refused n) o ≡ Accepted → (b ≡ false) × (o ≡ Accepted)
 passes true n o e = let z : _≡_ {A = ℕ} 0 1 = cc in absurd (omega arith)
 passes false n o e = (refl, e)
@@ -47,6 +42,9 @@ pub no-refusal : (rs : List Row) → NoneApplies rs → firstOf rs ≡ Accepted
 unfolding firstOf
 no-refusal [] h = refl
 no-refusal (r ∷ rs) h = rw (h .0) (no-refusal rs (h .1))
+
+pub no-refusal-exactly : NoRefusalExactly
+no-refusal-exactly rs = (none-applies rs, no-refusal rs)
 
 -- rows in two parts: the first part decides, or else the second
 abbrev pub orElse : Outcome → Outcome → Outcome

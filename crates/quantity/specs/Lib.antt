@@ -3,3 +3,4 @@ pub mod Units
 pub mod Refusals
 pub mod Range
 pub mod Fractions
+pub mod Theorems

@@ -30,7 +30,7 @@ abbrev pub NoneApplies : List Row → Type 0
 NoneApplies [] = Unit {0}
 NoneApplies (r ∷ rs) = (r .condition ≡ false) × NoneApplies rs
 
--- an outcome after one row more, as code takes the rows: `accumulated` of proofs/Rows.antt ties it to `firstOf`
+-- an outcome after one row more, as code takes the rows: `Accumulated` of specs/Theorems.antt ties it to `firstOf`
 unfoldable pub orRow : Outcome → Bool → ℕ → Outcome
 orRow (Refused earlier) refuses n = Refused earlier
 orRow Accepted true n = Refused n
