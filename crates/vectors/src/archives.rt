@@ -1,11 +1,8 @@
-// Lines and whole archives, given as hexadecimal bytes.
+// Whole archives, given as hexadecimal bytes.
 use crate::answers::put;
 use crate::hexadecimal::bytes_of;
 use crate::text::number;
 use libc::STDOUT_FILENO;
-use lines::Front;
-use lines::Line;
-use lines::MayCome;
 use lines::Written;
 
 // `A,` the bytes: the audit's whole output line, with the program's limit.
@@ -28,30 +25,8 @@ pub(crate) fn of_zeros(line: &[u8]) {
     }
 }
 
-// `O,`, `C,` or `S,` the bytes, where the opening, the card's line, or a sample's line or the last may come: the line as the writer puts it
-// again and how many bytes follow it, or X and the refusal.
-pub(crate) fn of_line(line: &[u8], may_come: MayCome) {
-    let mut space = [0u8; 4096];
-    let n = bytes_of(line, &mut space);
-    let front = lines::front_line(&space[..n], may_come);
-    match front {
-        Front::Read(what, size) => {
-            put_again(what);
-            let rest = lines::rest_after(&space[..n], size);
-            put(b",", rest.len() as u64);
-        }
-        Front::Refused(number) => put(b",X,", number),
-    }
-}
-
-fn put_again(what: Line) {
-    let mut out = [0u8; 512];
-    let written = lines::write_line(&mut out, 0, what);
-    put_front(&out, written);
-}
-
 // What was written, without the line feed that ends it.
-fn put_front(out: &[u8], written: Written) {
+pub(crate) fn put_front(out: &[u8], written: Written) {
     match written {
         Written::Next(n) => {
             if 0 < n {

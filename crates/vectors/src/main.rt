@@ -4,6 +4,7 @@ mod answers;
 mod archives;
 mod hexadecimal;
 mod meters;
+mod readers;
 mod temperatures;
 mod text;
 mod verdicts;
@@ -43,9 +44,9 @@ fn answer(line: &[u8]) {
             b'F' => meters::of_card(line),
             b'M' => meters::of_state(line),
             b'V' => verdicts::of_point(line),
-            b'O' => archives::of_line(line, MayCome::Opening),
-            b'C' => archives::of_line(line, MayCome::Card),
-            b'S' => archives::of_line(line, MayCome::SampleOrEnd),
+            b'O' => readers::of_line(line, MayCome::Opening),
+            b'C' => readers::of_line(line, MayCome::Card),
+            b'S' => readers::of_line(line, MayCome::SampleOrEnd),
             b'A' => archives::of_file(line),
             b'N' => archives::of_zeros(line),
             b'L' => writers::of_values(line),
