@@ -8,11 +8,12 @@ use lines::Totals;
 use lines::Written;
 use meter::Sample;
 
-// `L,` a kind (1 card, 2 sample, 3 last line), the bytes lent, the place, and the line's numbers: the next place, or X and the refusal, then
-// the whole space.
+// `L,` a kind (0 opening, 1 card, 2 sample, 3 last line), the bytes lent, the place, and the line's numbers: the next place, or X and the
+// refusal, then the whole space.
 pub(crate) fn of_values(line: &[u8]) {
     let kind = number(line, 1);
     match kind {
+        0 => put_line(line, Line::Opening),
         1 => put_line(line, Line::Card(card_of(line, 3))),
         2 => put_line(line, Line::Sample(sample_of(line))),
         _ => put_line(line, Line::End(totals_of(line))),
