@@ -8,7 +8,8 @@ use native.Mathlib.Omega.{arith}
 use lib.Dec.{eqb}
 use borrow.Author.Tests.{eqb-true, eqb-false}
 use Rattle.quantity.specs.Fractions.{whole, AtMost}
-use Rattle.verdict.specs.Limit.{hundredths, figures, figuresOf, Bounded}
+use Rattle.verdict.specs.Limit.{hundredths, fixedCap, figures1, figures2, figures3, figuresOf}
+use Rattle.verdict.specs.inside.Fit.{FiguresFit}
 use Rattle.quantity.specs.declared.fraction.Fraction.{Fraction}
 use Rattle.verdict.specs.declared.class.Figures.{Figures}
 
@@ -16,20 +17,20 @@ use Rattle.verdict.specs.declared.class.Figures.{Figures}
 pub record OfClass (class : ℕ) (f : Figures) : Type 0 where
   pub constant-of : f .constant ≡ 100 * class
   pub factor-of : f .factor ≤ 5
-  pub cap-of : f .cap ≡ 500
+  pub cap-of : f .cap ≡ fixedCap
 
 pub of-class : (class : ℕ) → 1 ≤ class → class ≤ 3 → OfClass class (figuresOf class)
 unfolding figuresOf
 of-class class l m = go (eqb class 1) (eqb class 2) refl refl
   where
-    go : (a b : Bool) → eqb class 1 ≡ a → eqb class 2 ≡ b → OfClass class (cond a (figures 100 1 500) (cond b (figures 200 2 500) (figures 300 5 500)))
+    go : (a b : Bool) → eqb class 1 ≡ a → eqb class 2 ≡ b → OfClass class (cond a figures1 (cond b figures2 figures3))
     go true b e f = omega (arith, eqb-true class 1 e)
     go false true e f = omega (arith, eqb-true class 2 f)
     go false false e f = omega (arith, eqb-false class 1 e, eqb-false class 2 f)
 
-pub bounded : (class : ℕ) → 1 ≤ class → class ≤ 3 → Bounded (figuresOf class)
-bounded class l m = let c = of-class class l m in record { constant-bound = omega arith; factor-bound = omega arith; cap-bound = omega arith }
+pub figures-fit : (class : ℕ) → 1 ≤ class → class ≤ 3 → FiguresFit (figuresOf class)
+figures-fit class l m = let c = of-class class l m in record { constant-fits = omega arith; factor-fits = omega arith; cap-fits = omega arith }
 
 -- the cap in hundredths of a percent, and in percent
-pub capped-at-5 : (x : Fraction) (m : ℕ) → m ≡ 500 → AtMost x (hundredths m) ↔ AtMost x (whole 5)
+pub capped-at-5 : (x : Fraction) (m : ℕ) → m ≡ fixedCap → AtMost x (hundredths m) ↔ AtMost x (whole 5)
 capped-at-5 x m e = rw e (λ h. omega arith, λ h. omega arith)

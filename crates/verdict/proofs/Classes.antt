@@ -1,26 +1,20 @@
--- The formulas of the other sources for a complete instrument: document 002 for class 2, 3 + 4×Δmin/Δ + 0.02×qp/q, document 001
--- for class 3, 4 + 4×Δmin/Δ + 0.05×qp/q, and the one that document 000 presumes for class 1, 2 + 4×Δmin/Δ + 0.01×qp/q. One law
--- over the class gives the three, while the flow sensor's part is at most 5.
+-- The formulas of the other sources for a complete instrument, while the flow sensor's part is at most 5: three uses of one law over the class.
 -- Assumes nothing.
 use mathlib.Core.Path.{_≡_, sym, ap, subst}
 use mathlib.Core.Bool.{Bool, cond}
-use Prim.Native.Nat.{ℕ, _+_, _*_, _≤_, _<_}
+use Prim.Native.Nat.{ℕ, _+_, _*_, _<_}
 use native.Mathlib.Nat.{mul-le-mul}
 use native.Mathlib.Omega.{arith}
 use lib.Dec.{lit≤}
 use borrow.Author.Tests.{le-leb}
-use Rattle.quantity.specs.Fractions.{whole, plus, times, smaller, AtMost, Represents}
-use Rattle.verdict.specs.Limit.{hundredths, figuresOf, differenceRatio, flowRatio, calculatorLimit, pairLimit, flowSensorSum, flowSensorLimit, completeLimit}
-use Rattle.verdict.specs.Rows.{Admitted}
+use Rattle.quantity.specs.Fractions.{plus, times, smaller, AtMost, Represents}
+use Rattle.verdict.specs.Limit.{hundredths, figuresOf, calculatorLimit, pairLimit, flowSensorSum, flowSensorLimit, completeLimit}
+use Rattle.verdict.specs.Theorems.{formula, CompleteFormula, Class1, Class2, Class3}
 use Rattle.quantity.specs.declared.fraction.Fraction.{Fraction}
 use Rattle.verdict.specs.declared.class.Figures.{Figures}
 use Rattle.verdict.specs.declared.point.TestPoint.{TestPoint}
 use Rattle.verdict.proofs.ClassFigures.{of-class, capped-at-5}
 use Rattle.verdict.proofs.Ranges.{ranges}
-
--- k + 4×Δmin/Δ + n/100 × qp/q
-abbrev pub formula : ℕ → ℕ → TestPoint → Fraction
-formula k n p = plus (plus (whole k) (times (whole 4) (differenceRatio p))) (times (hundredths n) (flowRatio p))
 
 uncapped : (f : Figures) (p : TestPoint) → AtMost (flowSensorSum f p) (hundredths (f .cap)) → flowSensorSum f p ≡ flowSensorLimit f p
 unfolding flowSensorLimit smaller
@@ -43,19 +37,20 @@ of-figures f p k e dh qh h =
     subst (λ (x : Fraction). Represents (formula k (f .factor) p) (plus (plus (calculatorLimit p) (pairLimit p)) x)) (uncapped f p h)
     (of-sums f p k e dh qh)
 
--- the law: class + 1 percent, and the class's factor
-pub complete : (class : ℕ) → 1 ≤ class → class ≤ 3 → (p : TestPoint) → Admitted p → AtMost (flowSensorSum (figuresOf class) p) (whole 5) → Represents (formula (class + 1) (figuresOf class .factor) p) (completeLimit (figuresOf class) p)
-complete class l m p a h =
+pub complete-formula : CompleteFormula
+complete-formula class l m p a h =
     let r = ranges p a in
     let c = of-class class l m in
     of-figures (figuresOf class) p (class + 1) (omega arith) (omega arith) (omega arith) (capped-at-5 _ _ (c .cap-of) .1 h)
 
--- document 002
-pub class-2 : (p : TestPoint) → Admitted p → AtMost (flowSensorSum (figuresOf 2) p) (whole 5) → Represents (formula 3 2 p) (completeLimit (figuresOf 2) p)
+pub class-1 : Class1
 unfolding figuresOf
-class-2 = complete 2 (lit≤ tt) (lit≤ tt)
+class-1 = complete-formula 1 (lit≤ tt) (lit≤ tt)
 
--- document 001
-pub class-3 : (p : TestPoint) → Admitted p → AtMost (flowSensorSum (figuresOf 3) p) (whole 5) → Represents (formula 4 5 p) (completeLimit (figuresOf 3) p)
+pub class-2 : Class2
 unfolding figuresOf
-class-3 = complete 3 (lit≤ tt) (lit≤ tt)
+class-2 = complete-formula 2 (lit≤ tt) (lit≤ tt)
+
+pub class-3 : Class3
+unfolding figuresOf
+class-3 = complete-formula 3 (lit≤ tt) (lit≤ tt)

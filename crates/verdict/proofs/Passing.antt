@@ -1,13 +1,13 @@
 -- Laws of a pass.
 -- Assumes nothing.
 use mathlib.Core.Path.{_≡_, refl, sym, _∙_}
-use mathlib.Core.Bool.{Bool, true, false, not}
-use Prim.Native.Nat.{ℕ, _*_, _<_}
+use mathlib.Core.Bool.{Bool, true, false}
+use Prim.Native.Nat.{ℕ, _*_}
 use native.Mathlib.Nat.{le-of-eq}
-use lib.Dec.{leb, ltb}
-use borrow.Author.Tests.{le-leb, lt-leb, leb-true, ltb-true, ltb-false}
+use borrow.Author.Tests.{le-leb, leb-true}
 use Rattle.quantity.proofs.Fractions.{transitive}
-use Rattle.quantity.specs.Fractions.{_over_, IsFraction, AtMost, Represents}
+use Rattle.quantity.specs.Fractions.{_over_, IsFraction, AtMost}
+use Rattle.verdict.specs.Theorems.{EqualLimits}
 use Rattle.verdict.specs.Verdict.{absoluteError, passes}
 use Rattle.quantity.specs.declared.fraction.Fraction.{Fraction}
 
@@ -17,8 +17,7 @@ unfolding passes
 wider l m i x p h e =
     le-leb _ _ (transitive (absoluteError i x * 100 over x) l m p (leb-true _ _ e) h)
 
--- equal limits are passed alike
-pub equal-limits : (l m : Fraction) (i x : ℕ) → Represents l m → IsFraction m → passes l i x ≡ passes m i x
+pub equal-limits : EqualLimits
 equal-limits l m i x r p = go (passes l i x) (passes m i x) refl refl
   where
     go : (a b : Bool) → passes l i x ≡ a → passes m i x ≡ b → passes l i x ≡ passes m i x

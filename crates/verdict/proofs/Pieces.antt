@@ -7,9 +7,8 @@ use Prim.Native.Nat.{ℕ, _+_, _*_, _<_, min}
 use native.Mathlib.Nat.{mul-le-mul}
 use native.Mathlib.Omega.{arith}
 use borrow.Author.Tests.{leb-true, leb-false}
-use Rattle.quantity.specs.Fractions.{_over_, whole, plus, times, smaller, AtMost, isAtMost, Represents}
+use Rattle.quantity.specs.Fractions.{_over_, plus, times, smaller, AtMost, isAtMost, Represents}
 use Rattle.verdict.specs.Limit.{hundredths, calculatorLimit, pairLimit, flowSensorSum, flowSensorLimit, completeLimit}
-use Rattle.quantity.specs.declared.fraction.Fraction.{Fraction}
 use Rattle.verdict.specs.declared.class.Figures.{Figures}
 use Rattle.verdict.specs.declared.point.TestPoint.{TestPoint}
 
@@ -41,12 +40,12 @@ flow-sensor f p n h e = go (isAtMost (flowSensorSum f p) (hundredths (f .cap))) 
         rw m (record { is-fraction = omega arith; same = omega arith })
 
 -- a complete instrument's, from a fraction n/e for the flow sensor's
-pub complete : (f : Figures) (p : TestPoint) (n e : ℕ) →
+pub added : (f : Figures) (p : TestPoint) (n e : ℕ) →
     let d = p .difference .0 in
     let m = p .«delta_min» in
     0 < d → Represents (n over e) (flowSensorLimit f p) → Represents ((d + 200 * m + (d + 600 * m)) * e + n * (2 * d) over 2 * d * e) (completeLimit f p)
 unfolding completeLimit calculatorLimit pairLimit plus times
-complete f p n e h r =
+added f p n e h r =
     let d = p .difference .0 in
     record {
       is-fraction = omega (arith, mul-le-mul h (r .is-fraction));

@@ -2,13 +2,12 @@
 -- Assumes nothing.
 use mathlib.Core.Path.{_≡_}
 use mathlib.Core.Bool.{false}
-use Prim.Native.Nat.{ℕ, _*_, _-_, _^_, _≤_, _<_}
-use native.Mathlib.Omega.{arith}
+use Prim.Native.Nat.{ℕ, _*_, _≤_}
 use lib.Dec.{eqb}
 use borrow.Author.Tests.{ltb-false}
 use Rattle.quantity.proofs.Conditions.{neither, inside}
 use Rattle.quantity.proofs.Rows.{none-applies}
-use Rattle.verdict.specs.Rows.{differenceOutside, flowOutside, valueOutside, pointRows, Admitted}
+use Rattle.verdict.specs.Rows.{differenceOutside, largestFlow, flowOutside, largestValue, valueOutside, pointRows, Admitted}
 use Rattle.verdict.specs.declared.point.TestPoint.{TestPoint}
 
 pub record InRange (p : TestPoint) : Type 0 where
@@ -17,8 +16,8 @@ pub record InRange (p : TestPoint) : Type 0 where
   pub stage : (1 ≤ p .stage) × (p .stage ≤ 2)
   pub delta-min : (1 ≤ p .«delta_min») × (p .«delta_min» ≤ 3)
   pub difference : (p .«delta_min» * 100 ≤ p .difference .0) × (p .difference .0 ≤ 18000)
-  pub qp : (1 ≤ p .qp) × (p .qp ≤ 10 ^ 9)
-  pub q : (1 ≤ p .q) × (p .q ≤ 10 ^ 9)
+  pub qp : (1 ≤ p .qp) × (p .qp ≤ largestFlow)
+  pub q : (1 ≤ p .q) × (p .q ≤ largestFlow)
 
 pub ranges : (p : TestPoint) → Admitted p → InRange p
 unfolding differenceOutside flowOutside
@@ -37,10 +36,8 @@ ranges p e =
       q = inside _ _ _ (f .1);
     }
 
-pub values : (i x : ℕ) → valueOutside i x ≡ false → (i < 10 ^ 12) × (x < 10 ^ 12)
+pub values : (i x : ℕ) → valueOutside i x ≡ false → (i ≤ largestValue) × (x ≤ largestValue)
 unfolding valueOutside
 values i x e =
     let s = neither _ _ e in
-    let a = ltb-false (10 ^ 12 - 1) i (neither (eqb x 0) _ (s .0) .1) in
-    let b = ltb-false (10 ^ 12 - 1) x (s .1) in
-    (omega (arith, a), omega (arith, b))
+    (ltb-false largestValue i (neither (eqb x 0) _ (s .0) .1), ltb-false largestValue x (s .1))

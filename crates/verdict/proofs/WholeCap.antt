@@ -1,12 +1,11 @@
--- At verification no complete instrument's limit passes 10 percent, so document 001's cap there decides nothing: the
--- calculator's limit is at most 1.5, the pair's 3.5, the flow sensor's 5.
+-- At verification no complete instrument's limit passes 10 percent: the calculator's is at most 1.5, the pair's 3.5, the flow sensor's 5.
 -- Assumes nothing.
 use Prim.Native.Nat.{ℕ, _*_, _≤_}
 use native.Mathlib.Omega.{arith}
 use Rattle.quantity.proofs.Fractions.{sums, at-most-second}
 use Rattle.quantity.specs.Fractions.{_over_, whole, plus, times, AtMost}
 use Rattle.verdict.specs.Limit.{figuresOf, calculatorLimit, pairLimit, flowSensorLimit, completeLimit}
-use Rattle.verdict.specs.Rows.{Admitted}
+use Rattle.verdict.specs.Theorems.{AtMost10}
 use Rattle.quantity.specs.declared.fraction.Fraction.{Fraction}
 use Rattle.verdict.specs.declared.point.TestPoint.{TestPoint}
 use Rattle.verdict.proofs.ClassFigures.{of-class, capped-at-5}
@@ -28,7 +27,7 @@ of-flow-sensor class l m p = capped-at-5 _ _ (of-class class l m .cap-of) .0 (at
 unfolding plus
 10-in-all x h = omega arith
 
-pub at-most-10 : (class : ℕ) → 1 ≤ class → class ≤ 3 → (p : TestPoint) → Admitted p → AtMost (completeLimit (figuresOf class) p) (whole 10)
+pub at-most-10 : AtMost10
 unfolding completeLimit
 at-most-10 class l m p a =
     let r = ranges p a .difference .0 in

@@ -3,14 +3,13 @@
 use mathlib.Core.Path.{_≡_, refl, sym, _∙_}
 use mathlib.Core.Bool.{Bool, true, false}
 use Prim.Native.Nat.{ℕ}
-use native.Mathlib.Omega.{arith}
 use Rattle.quantity.specs.Refusals.{outside, firstOf, orRow}
 use Rattle.quantity.specs.declared.refusal.Outcome.{Outcome}
 use Rattle.quantity.specs.declared.refusal.Outcome.the-variants.{Accepted, Refused as RowRefused}
-use Rattle.quantity.specs.Fractions.{AtMost}
 use Rattle.quantity.proofs.Fractions.{twice}
 use Rattle.verdict.specs.Limit.{figuresOf, calculatorLimit, pairLimit, flowSensorSum, flowSensorLimit, completeLimit, partLimit, limitOf}
 use Rattle.verdict.specs.Rows.{valueOutside, verdictRows, Admitted}
+use Rattle.verdict.specs.Theorems.{Widened, atStage, InService}
 use Rattle.verdict.specs.Verdict.{passes, answer, refusedOr, verdictOf}
 use Rattle.verdict.specs.declared.point.TestPoint.{TestPoint}
 use Rattle.verdict.specs.declared.bench.Verdict.the-variants.{Pass}
@@ -44,8 +43,7 @@ makes p i x h =
     let r : firstOf (verdictRows p i x) ≡ Accepted = sym (last-row p i x) ∙ simp (h .admitted, h .in-range) in
     simp (r, h .within)
 
--- what passes at one test point passes at every other whose limit is no smaller
-pub widened : (p w : TestPoint) (i x : ℕ) → Admitted w → AtMost (limitOf (figuresOf (p .class)) p) (limitOf (figuresOf (w .class)) w) → verdictOf p i x ≡ Pass → verdictOf w i x ≡ Pass
+pub widened : Widened
 widened p w i x a h e =
     let t = tells p i x e in
     makes w i x
@@ -55,20 +53,7 @@ widened p w i x a h e =
       within = wider (limitOf (figuresOf (p .class)) p) _ i x (limit-positive _ _ (t .admitted)) h (t .within);
     })
 
-abbrev atStage : ℕ → TestPoint → TestPoint
-atStage s p =
-    record {
-      part = p .part;
-      class = p .class;
-      stage = s;
-      «delta_min» = p .«delta_min»;
-      difference = p .difference;
-      qp = p .qp;
-      q = p .q;
-    }
-
--- what passes at verification passes in service
-pub in-service : (p : TestPoint) (i x : ℕ) → verdictOf (atStage 1 p) i x ≡ Pass → verdictOf (atStage 2 p) i x ≡ Pass
+pub in-service : InService
 unfolding limitOf partLimit completeLimit flowSensorLimit flowSensorSum pairLimit calculatorLimit outside
 in-service p i x e =
     widened (atStage 1 p) (atStage 2 p) i x (tells (atStage 1 p) i x e .admitted) (twice (partLimit (figuresOf (p .class)) p)) e

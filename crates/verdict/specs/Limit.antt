@@ -3,7 +3,7 @@
 -- 3 + 0.05×qp/q for classes 1, 2, 3, at most 5 (a cap fixed here); complete is the sum of the three. In service, twice
 -- the result." They are asked for only where no row refuses, and there their lower numbers are above zero
 -- (proofs/Positive.antt).
-use Prim.Native.Nat.{ℕ, _*_, _≤_}
+use Prim.Native.Nat.{ℕ, _*_}
 use mathlib.Core.Bool.{cond}
 use lib.Dec.{eqb}
 use Rattle.quantity.specs.Fractions.{_over_, whole, plus, times, smaller}
@@ -19,9 +19,23 @@ hundredths n = n over 100
 abbrev pub figures : ℕ → ℕ → ℕ → Figures
 figures c f m = record { constant = c; factor = f; cap = m }
 
--- those of classes 1, 2 and 3; 51 refuses every other class
+-- "at most 5 (a cap fixed here)"
+abbrev pub fixedCap : ℕ
+fixedCap = 500
+
+-- "1 + 0.01×qp/q, 2 + 0.02×qp/q, 3 + 0.05×qp/q for classes 1, 2, 3"
+abbrev pub figures1 : Figures
+figures1 = figures 100 1 fixedCap
+
+abbrev pub figures2 : Figures
+figures2 = figures 200 2 fixedCap
+
+abbrev pub figures3 : Figures
+figures3 = figures 300 5 fixedCap
+
+-- by class; 51 refuses every other
 unfoldable pub figuresOf : ℕ → Figures
-figuresOf class = cond (eqb class 1) (figures 100 1 500) (cond (eqb class 2) (figures 200 2 500) (figures 300 5 500))
+figuresOf class = cond (eqb class 1) figures1 (cond (eqb class 2) figures2 figures3)
 
 -- Δmin/Δ, with Δ = D/100
 abbrev pub differenceRatio : TestPoint → Fraction
@@ -62,9 +76,3 @@ partLimit f p =
 -- by stage: 1 verification, 2 in service; 52 refuses every other stage
 unfoldable pub limitOf : Figures → TestPoint → Fraction
 limitOf f p = cond (eqb (p .stage) 1) (partLimit f p) (times (whole 2) (partLimit f p))
-
--- what the code asks of the figures, so that its numbers fit 64 bits: none is above 100 percent
-pub record Bounded (f : Figures) : Type 0 where
-  pub constant-bound : f .constant ≤ 10000
-  pub factor-bound : f .factor ≤ 10000
-  pub cap-bound : f .cap ≤ 10000

@@ -16,12 +16,18 @@ unfoldable pub differenceOutside : ℕ → Difference → Bool
 differenceOutside δ d = outside δ 1 3 || isSmaller d (wholeKelvins δ) || isSmaller (wholeKelvins 180) d
 
 -- 54: qp or q is outside 1..10^9
+abbrev pub largestFlow : ℕ
+largestFlow = 10 ^ 9
+
 unfoldable pub flowOutside : ℕ → ℕ → Bool
-flowOutside qp q = outside qp 1 (10 ^ 9) || outside q 1 (10 ^ 9)
+flowOutside qp q = outside qp 1 largestFlow || outside q 1 largestFlow
 
 -- 55: X is zero, or I or X is above 10^12−1
+abbrev pub largestValue : ℕ
+largestValue = 10 ^ 12 - 1
+
 unfoldable pub valueOutside : ℕ → ℕ → Bool
-valueOutside i x = eqb x 0 || ltb (10 ^ 12 - 1) i || ltb (10 ^ 12 - 1) x
+valueOutside i x = eqb x 0 || ltb largestValue i || ltb largestValue x
 
 -- what is asked of the test point
 abbrev pub pointRows : TestPoint → List Row
@@ -41,6 +47,6 @@ valueRows i x = row 55 (valueOutside i x) ∷ []
 abbrev pub verdictRows : TestPoint → ℕ → ℕ → List Row
 verdictRows p i x = pointRows p ++ valueRows i x
 
--- no row refuses the test point: what the code asks before it works out a limit
+-- no row refuses the test point: what the theorems suppose of it, and what the code asks before it works out a limit
 abbrev pub Admitted : TestPoint → Type 0
 Admitted p = firstOf (pointRows p) ≡ Accepted

@@ -6,9 +6,12 @@ use quantity::Fraction;
 use quantity::Outcome;
 use quantity::product_less;
 ghost use mathlib.Core.Path.{_≡_};
-ghost use Prim.Native.Nat.{_^_, _<_};
-ghost use Rattle.verdict.specs.Rows.{valueOutside};
+ghost use Prim.Native.Nat.{_≤_};
+ghost use Rattle.verdict.specs.Rows.{largestValue, valueOutside};
 ghost use Rattle.verdict.specs.Verdict.{absoluteError, passes, verdictOf};
+
+// The largest value that 55 lets pass.
+const LARGEST_VALUE: u64 = 999999999999;
 
 // The answer of document 01, "Error verdict".
 pub enum Verdict {
@@ -30,7 +33,7 @@ fn absolute_error(indicated: u64, conventional_true: u64) -> u64
 
 // Whether the error lies within the limit. The two products compared pass 64 bits.
 pub(crate) fn is_within(limit: Fraction, indicated: u64, conventional_true: u64) -> bool
-    requires { ⌜ (indicated < 10 ^ 12) × («conventional_true» < 10 ^ 12) ⌝ }
+    requires { ⌜ (indicated ≤ largestValue) × («conventional_true» ≤ largestValue) ⌝ }
     ensures { λ r. ⌜ r ≡ passes limit indicated «conventional_true» ⌝ }
 {
     let error = absolute_error(indicated, conventional_true) * 100;
@@ -44,10 +47,10 @@ fn is_value_outside(indicated: u64, conventional_true: u64) -> bool
     if conventional_true == 0 {
         return true;
     }
-    if 999999999999 < indicated {
+    if LARGEST_VALUE < indicated {
         return true;
     }
-    999999999999 < conventional_true
+    LARGEST_VALUE < conventional_true
 }
 
 // Whether the indicated value passes at the test point, or the first of the refusals 50 to 55.

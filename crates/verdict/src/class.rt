@@ -2,6 +2,9 @@
 ghost use mathlib.Core.Path.{_≡_};
 ghost use Rattle.verdict.specs.Limit.{figuresOf};
 
+// The cap that document 01 fixes for every class, in hundredths of a percent.
+const FIXED_CAP: u64 = 500;
+
 // The three numbers of a flow sensor's limit, constant + factor × qp/q and at most cap, in hundredths of a percent.
 pub(crate) struct Figures {
     pub(crate) constant: u64,
@@ -17,17 +20,17 @@ pub(crate) fn figures_of_class(class: u64) -> Figures
         1 => Figures {
             constant: 100,
             factor: 1,
-            cap: 500,
+            cap: FIXED_CAP,
         },
         2 => Figures {
             constant: 200,
             factor: 2,
-            cap: 500,
+            cap: FIXED_CAP,
         },
         _ => Figures {
             constant: 300,
             factor: 5,
-            cap: 500,
+            cap: FIXED_CAP,
         },
     }
 }

@@ -5,12 +5,13 @@ use quantity::Fraction;
 ghost use mathlib.Core.Path.{_≡_};
 ghost use Prim.Native.Nat.{_+_, _*_, _^_, _≤_, min};
 ghost use Rattle.quantity.specs.Fractions.{Represents};
-ghost use Rattle.verdict.specs.Limit.{Bounded, partLimit, limitOf};
-ghost use Rattle.verdict.specs.Rows.{Admitted};
+ghost use Rattle.verdict.specs.Limit.{partLimit, limitOf};
+ghost use Rattle.verdict.specs.inside.Fit.{FiguresFit};
+ghost use Rattle.verdict.specs.Rows.{largestFlow, Admitted};
 
 // The flow sensor's limit at verification, times 100 × q: what the cap leaves of constant + factor × qp/q.
 fn flow_sensor_part(figures: Figures, qp: u64, q: u64) -> u64
-    requires { ⌜ (Bounded figures) × (qp ≤ 10 ^ 9) × (q ≤ 10 ^ 9) ⌝ }
+    requires { ⌜ (FiguresFit figures) × (qp ≤ largestFlow) × (q ≤ largestFlow) ⌝ }
     ensures { λ r. ⌜ r ≡ min (figures .constant * q + figures .factor * qp) (figures .cap * q) ⌝ }
 {
     let sum = figures.constant * q + figures.factor * qp;
@@ -21,7 +22,7 @@ fn flow_sensor_part(figures: Figures, qp: u64, q: u64) -> u64
 // The limit of the point's part at verification. The calculator's 0.5 + Δmin/Δ and the pair's 0.5 + 3×Δmin/Δ are counted
 // in 1/(2×D) percent, the flow sensor's in 1/(100×q): so each number fits 64 bits, for figures of up to 100 percent.
 fn part_limit(figures: Figures, point: TestPoint) -> Fraction
-    requires { ⌜ (Bounded figures) × (Admitted point) ⌝ }
+    requires { ⌜ (FiguresFit figures) × (Admitted point) ⌝ }
     ensures { λ r. ⌜ (Represents r (partLimit figures point)) × (r .numerator ≤ 10 ^ 18) ⌝ }
 {
     let d = point.difference.0;
@@ -53,7 +54,7 @@ fn part_limit(figures: Figures, point: TestPoint) -> Fraction
 
 // The limit at the point's stage: in service, twice that of verification.
 pub(crate) fn limit(figures: Figures, point: TestPoint) -> Fraction
-    requires { ⌜ (Bounded figures) × (Admitted point) ⌝ }
+    requires { ⌜ (FiguresFit figures) × (Admitted point) ⌝ }
     ensures { λ r. ⌜ Represents r (limitOf figures point) ⌝ }
 {
     let at_verification = part_limit(figures, point);

@@ -6,6 +6,9 @@ ghost use mathlib.Core.Path.{_≡_};
 ghost use Rattle.quantity.specs.Refusals.{firstOf};
 ghost use Rattle.verdict.specs.Rows.{differenceOutside, flowOutside, pointRows};
 
+// The largest flow rate that 54 lets pass.
+const LARGEST_FLOW: u64 = 1000000000;
+
 // What is tested, and where: the inputs of document 01, "Error verdict", without the two values compared. Any
 // content can stand here: the verdict refuses what is out of range.
 pub struct TestPoint {
@@ -27,10 +30,10 @@ pub struct TestPoint {
 fn is_flow_outside(qp: u64, q: u64) -> bool
     ensures { λ r. ⌜ r ≡ flowOutside qp q ⌝ }
 {
-    if is_outside(qp, 1, 1000000000) {
+    if is_outside(qp, 1, LARGEST_FLOW) {
         return true;
     }
-    is_outside(q, 1, 1000000000)
+    is_outside(q, 1, LARGEST_FLOW)
 }
 
 // The condition of 53. Δmin comes first: only a small one is counted in hundredths without passing 64 bits.

@@ -6,7 +6,7 @@ use mathlib.Core.Bool.{false}
 use Rattle.quantity.specs.Refusals.{firstOf, orRow}
 use Rattle.verdict.specs.Rows.{valueOutside, pointRows, Admitted}
 use Rattle.verdict.specs.Verdict.{answer, verdictOf}
-use Rattle.verdict.proofs.ClassFigures.{bounded}
+use Rattle.verdict.proofs.ClassFigures.{figures-fit}
 use Rattle.verdict.proofs.Ranges.{ranges, values}
 use Rattle.verdict.proofs.Verdicts.{both, refused, judged}
 use Rattle.verdict.proofs.bench.error_verdict.Statement.{statement}
@@ -55,7 +55,7 @@ limit-requires : tie.Need-limit-requires
 limit-requires c κs =
     let a = unrefused (c .before) .0 in
     let r = ranges _ a .class in
-    (rw (c .figures-of-class .ensures) (bounded _ (r .0) (r .1)), a)
+    (rw (c .figures-of-class .ensures) (figures-fit _ (r .0) (r .1)), a)
 
 is-within-requires : tie.Need-is-within-requires
 is-within-requires c κs = values _ _ (unrefused (c .before .before) .1)

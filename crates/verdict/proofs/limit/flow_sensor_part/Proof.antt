@@ -7,18 +7,18 @@ use Rattle.verdict.proofs.limit.flow_sensor_part.Statement.{statement}
 use Rattle.verdict.proofs.limit.flow_sensor_part.Tie as tie
 
 mul-sum : tie.Need-mul-sum
-mul-sum c = let h = c .before .pre in omega (arith, mul-le-mul (h .0 .constant-bound) (h .2))
+mul-sum c = let h = c .before .pre in omega (arith, mul-le-mul (h .0 .constant-fits) (h .2))
 
 mul-sum-2 : tie.Need-mul-sum-2
-mul-sum-2 c = let h = c .before .before .pre in omega (arith, mul-le-mul (h .0 .factor-bound) (h .1))
+mul-sum-2 c = let h = c .before .before .pre in omega (arith, mul-le-mul (h .0 .factor-fits) (h .1))
 
 add-sum : tie.Need-add-sum
 add-sum c =
     let h = c .before .before .pre in
-    omega (arith, mul-le-mul (h .0 .constant-bound) (h .2), mul-le-mul (h .0 .factor-bound) (h .1))
+    omega (arith, mul-le-mul (h .0 .constant-fits) (h .2), mul-le-mul (h .0 .factor-fits) (h .1))
 
 mul-most : tie.Need-mul-most
-mul-most c = let h = c .before .before .before .pre in omega (arith, mul-le-mul (h .0 .cap-bound) (h .2))
+mul-most c = let h = c .before .before .before .pre in omega (arith, mul-le-mul (h .0 .cap-fits) (h .2))
 
 returns : tie.Need-returns
 returns c = search needs

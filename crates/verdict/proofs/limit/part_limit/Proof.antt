@@ -7,7 +7,7 @@ use native.Mathlib.Omega.{arith}
 use borrow.Author.Tests.{ne-eqb}
 use Rattle.quantity.specs.Fractions.{_over_, Represents}
 use Rattle.verdict.specs.Limit.{flowSensorLimit, partLimit}
-use Rattle.verdict.proofs.Pieces.{calculator, pair, flow-sensor, complete}
+use Rattle.verdict.proofs.Pieces.{calculator, pair, flow-sensor, added}
 use Rattle.verdict.proofs.Ranges.{InRange, ranges}
 use Rattle.verdict.proofs.Room.{Room, room}
 use Rattle.verdict.proofs.limit.part_limit.Statement.{statement}
@@ -17,7 +17,7 @@ in-range : (c : tie.Start) → InRange (c .args .point)
 in-range c = ranges (c .args .point) (c .pre .1)
 
 flow-bound : (c : tie.After-flow-sensor-part) → c .flow-sensor-part .result ≤ 10 ^ 13
-flow-bound c = let s = c .before .before .before in omega (arith, mul-le-mul (s .pre .0 .cap-bound) (in-range s .q .1))
+flow-bound c = let s = c .before .before .before in omega (arith, mul-le-mul (s .pre .0 .cap-fits) (in-range s .q .1))
 
 has-room : (c : tie.After-flow-sensor-part) → let p = c .before .before .before .args .point in Room (p .difference .0) (p .«delta_min») (p .q) (c .flow-sensor-part .result)
 has-room c =
@@ -91,7 +91,7 @@ unfolding partLimit
 returns-4 c =
     let s = c .before .before .before .before .before in
     let r = c .match .rest in
-    (simp (ne-eqb _ _ (r .0 .0 .1), ne-eqb _ _ (r .0 .1), ne-eqb _ _ (r .1)) (complete _ _ _ _ (positive s .0) (flow (c .before .before))), omega (arith, has-room (c .before .before)))
+    (simp (ne-eqb _ _ (r .0 .0 .1), ne-eqb _ _ (r .0 .1), ne-eqb _ _ (r .1)) (added _ _ _ _ (positive s .0) (flow (c .before .before))), omega (arith, has-room (c .before .before)))
 
 pub part-limit-spec : {M : Type 1} → statement M
 part-limit-spec =
