@@ -9,8 +9,8 @@ use lib.Dec.{T, leb, leb→le}
 use lib.ListN.{getD}
 use Rattle.quantity.proofs.Span.{span, below}
 use Rattle.water.specs.Table.{Table, water}
-use Rattle.water.specs.inside.Lists.{enthalpies, volumes}
-use Rattle.water.specs.Theorems.{Right, TableBounds, WaterBounded}
+use Rattle.water.specs.inside.Lists.{enthalpies, volumes, Right}
+use Rattle.water.specs.Theorems.{TableBounds, WaterBounded}
 use Rattle.water.proofs.Entries.{water-right}
 
 -- the test that f is at most g at the first n numbers

@@ -13,9 +13,8 @@ use Rattle.quantity.proofs.Span.{span, below, join}
 use Rattle.water.specs.If97.{enthalpy, volume}
 use Rattle.water.specs.Table.{Table, enthalpyEntry, volumeEntry, water}
 use Rattle.water.specs.Interpolation.{interpolated}
-use Rattle.water.specs.Theorems.{Right, WaterRight}
 use Rattle.water.proofs.Interpolated.{alike}
-use Rattle.water.specs.inside.Lists.{enthalpies, volumes}
+use Rattle.water.specs.inside.Lists.{enthalpies, volumes, Right, WaterRight}
 
 -- the test: both entries of a degree are the table's
 unfoldable pub isRight : Table → List ℕ → List ℕ → ℕ → Bool

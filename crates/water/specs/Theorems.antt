@@ -1,27 +1,16 @@
 -- What is proved of the water table and of the heat, statement by statement. Each is proved in proofs/ under its name in small letters. All but
--- two are over any table, so that a second table is a second use.
+-- `WaterBounded` are over any table, so that a second table is a second use. (That the arrays of the code are the table is the contract of
+-- `table_entry`.)
 use mathlib.Core.Path.{_≡_}
 use mathlib.Core.Bool.{false}
-use mathlib.Core.List.{List}
 use Prim.Native.Nat.{ℕ, _+_, _*_, _≤_, _<_}
-use lib.ListN.{getD}
 use Rattle.quantity.specs.declared.units.Temperature.{Temperature}
 use Rattle.quantity.specs.Fractions.{whole, IsFraction, AtMost, floored}
 use Rattle.quantity.specs.Refusals.{outside}
 use Rattle.water.specs.Table.{Table, water}
 use Rattle.water.specs.Pair.{atPlace}
 use Rattle.water.specs.Heat.{exactHeat, heatOf}
-use Rattle.water.specs.inside.Lists.{enthalpies, volumes}
 use Rattle.water.specs.declared.answers.Heat.{Heat}
-
--- two lists are a table's entries, at every degree
-pub record Right (w : Table) (hs vs : List ℕ) : Type 0 where
-  pub enthalpy : (d : ℕ) → d ≤ w .last → getD hs d 0 ≡ w .enthalpyOf d
-  pub volume : (d : ℕ) → d ≤ w .last → getD vs d 0 ≡ w .volumeOf d
-
--- every entry of the two arrays of the code is the rounded IF97 value
-abbrev pub WaterRight : Type 0
-WaterRight = Right water enthalpies volumes
 
 -- The bounds of a table that the register's bounds and the 64 bits of the code rest on.
 -- h in mJ/kg grows by at least 4,100,000 per degree and is at most 800,000,000; v in 10^-12 m³/kg is at least 900,000,000

@@ -1,6 +1,9 @@
--- The two constant arrays of src/tables.rt, as lists.
+-- The two constant arrays of src/tables.rt, as lists, and what it means that lists are a table's entries.
+use mathlib.Core.Path.{_≡_}
 use mathlib.Core.List.{List, [], _∷_}
-use Prim.Native.Nat.{ℕ}
+use Prim.Native.Nat.{ℕ, _≤_}
+use lib.ListN.{getD}
+use Rattle.water.specs.Table.{Table, water}
 
 unfoldable pub enthalpies : List ℕ
 enthalpies =
@@ -47,3 +50,12 @@ volumes =
     1113630294 ∷ 1114913605 ∷ 1116205965 ∷ 1117507459 ∷ 1118818175 ∷ 1120138201 ∷ 1121467629 ∷ 1122806552 ∷ 1124155064 ∷ 1125513261 ∷
     1126881244 ∷
     []
+
+-- two lists are a table's entries, at every degree
+pub record Right (w : Table) (hs vs : List ℕ) : Type 0 where
+  pub enthalpy : (d : ℕ) → d ≤ w .last → getD hs d 0 ≡ w .enthalpyOf d
+  pub volume : (d : ℕ) → d ≤ w .last → getD vs d 0 ≡ w .volumeOf d
+
+-- every entry of the two arrays of the code is the rounded IF97 value
+abbrev pub WaterRight : Type 0
+WaterRight = Right water enthalpies volumes
