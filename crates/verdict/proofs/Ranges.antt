@@ -5,6 +5,7 @@ use mathlib.Core.Bool.{false}
 use Prim.Native.Nat.{ℕ, _*_, _≤_}
 use lib.Dec.{eqb}
 use borrow.Author.Tests.{ltb-false}
+use Rattle.quantity.specs.Units.{largestKelvins}
 use Rattle.quantity.proofs.Conditions.{neither, inside}
 use Rattle.quantity.proofs.Rows.{none-applies}
 use Rattle.verdict.specs.Rows.{differenceOutside, largestFlow, flowOutside, largestValue, valueOutside, pointRows, Admitted}
@@ -15,7 +16,7 @@ pub record InRange (p : TestPoint) : Type 0 where
   pub class : (1 ≤ p .class) × (p .class ≤ 3)
   pub stage : (1 ≤ p .stage) × (p .stage ≤ 2)
   pub delta-min : (1 ≤ p .«delta_min») × (p .«delta_min» ≤ 3)
-  pub difference : (p .«delta_min» * 100 ≤ p .difference .0) × (p .difference .0 ≤ 18000)
+  pub difference : (p .«delta_min» * 100 ≤ p .difference .0) × (p .difference .0 ≤ 100 * largestKelvins)
   pub qp : (1 ≤ p .qp) × (p .qp ≤ largestFlow)
   pub q : (1 ≤ p .q) × (p .q ≤ largestFlow)
 

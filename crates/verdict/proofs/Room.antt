@@ -3,6 +3,7 @@
 use Prim.Native.Nat.{ℕ, _+_, _*_, _^_, _≤_}
 use native.Mathlib.Nat.{mul-le-mul}
 use native.Mathlib.Omega.{arith}
+use Rattle.quantity.specs.Units.{largestKelvins}
 use Rattle.verdict.specs.Rows.{largestFlow}
 
 -- the products of a complete instrument's limit: D, Δmin, q, and the flow sensor's part
@@ -11,7 +12,7 @@ pub record Room (d m q flow : ℕ) : Type 0 where
   pub over-difference : flow * (2 * d) ≤ 36000 * 10 ^ 13
   pub lower : 2 * d * (100 * q) ≤ 36000 * 10 ^ 11
 
-pub room : (d m q flow : ℕ) → d ≤ 18000 → m ≤ 3 → q ≤ largestFlow → flow ≤ 10 ^ 13 → Room d m q flow
+pub room : (d m q flow : ℕ) → d ≤ 100 * largestKelvins → m ≤ 3 → q ≤ largestFlow → flow ≤ 10 ^ 13 → Room d m q flow
 room d m q flow dh mh qh fh =
     let sum : d + 200 * m + (d + 600 * m) ≤ 38400 = omega arith in
     let twice : 2 * d ≤ 36000 = omega arith in

@@ -5,7 +5,7 @@ use mathlib.Core.Path.{_≡_}
 use mathlib.Core.Bool.{Bool, _||_}
 use mathlib.Core.List.{List, [], _∷_, _++_}
 use lib.Dec.{ltb, eqb}
-use Rattle.quantity.specs.Units.{wholeKelvins, isSmaller}
+use Rattle.quantity.specs.Units.{largestKelvins, wholeKelvins, isSmaller}
 use Rattle.quantity.specs.Refusals.{Row, row, outside, firstOf}
 use Rattle.quantity.specs.declared.refusal.Outcome.the-variants.{Accepted}
 use Rattle.quantity.specs.declared.units.Difference.{Difference}
@@ -13,7 +13,7 @@ use Rattle.verdict.specs.declared.point.TestPoint.{TestPoint}
 
 -- 53: Δmin is none of 1, 2, 3, or D is outside Δmin..180 K, which is 100×Δmin..18000 in hundredths
 unfoldable pub differenceOutside : ℕ → Difference → Bool
-differenceOutside δ d = outside δ 1 3 || isSmaller d (wholeKelvins δ) || isSmaller (wholeKelvins 180) d
+differenceOutside δ d = outside δ 1 3 || isSmaller d (wholeKelvins δ) || isSmaller (wholeKelvins largestKelvins) d
 
 -- 54: qp or q is outside 1..10^9
 abbrev pub largestFlow : ℕ

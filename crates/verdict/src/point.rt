@@ -1,5 +1,6 @@
 // A test point of the bench, and the refusals 50 to 54 of document 01's row "Verdict".
 use quantity::Difference;
+use quantity::LARGEST_KELVINS;
 use quantity::Outcome;
 use quantity::is_outside;
 ghost use mathlib.Core.Path.{_≡_};
@@ -46,7 +47,7 @@ fn is_difference_outside(delta_min: u64, difference: Difference) -> bool
     if difference.is_below(Difference::of_kelvins(delta_min as u32)) {
         return true;
     }
-    Difference::of_kelvins(180).is_below(difference)
+    Difference::of_kelvins(LARGEST_KELVINS as u32).is_below(difference)
 }
 
 impl TestPoint {

@@ -6,7 +6,7 @@ use mathlib.Core.Bool.{false, _||_}
 use Prim.Native.Nat.{ℕ}
 use native.Mathlib.Omega.{arith}
 use Rattle.quantity.specs.Refusals.{outside}
-use Rattle.quantity.specs.Units.{wholeKelvins, isSmaller}
+use Rattle.quantity.specs.Units.{largestKelvins, wholeKelvins, isSmaller}
 use Rattle.quantity.specs.declared.units.Difference.{Difference}
 use Rattle.verdict.specs.Rows.{differenceOutside}
 use Rattle.quantity.proofs.Conditions.{inside}
@@ -14,7 +14,7 @@ use Rattle.verdict.proofs.point.is_difference_outside.Statement.{statem
 use Rattle.verdict.proofs.point.is_difference_outside.Tie as tie
 
 -- where Δmin is in range, the difference's two ends decide
-ends : (δ : ℕ) (d k l : Difference) → outside δ 1 3 ≡ false → k ≡ wholeKelvins δ → l ≡ wholeKelvins 180 → differenceOutside δ d ≡ (isSmaller d k || isSmaller l d)
+ends : (δ : ℕ) (d k l : Difference) → outside δ 1 3 ≡ false → k ≡ wholeKelvins δ → l ≡ wholeKelvins largestKelvins → differenceOutside δ d ≡ (isSmaller d k || isSmaller l d)
 unfolding differenceOutside
 ends δ d k l p e f = simp (p, e, f)
 
@@ -40,6 +40,9 @@ returns-2 c =
     let e = sym (k .before .before .is-outside .ensures) ∙ k .before .if1 .left in
     simp (ends _ (k .before .before .before .args .difference) _ _ e (k .of-kelvins .ensures) refl, ← c .before .is-below .ensures, c .if2 .taken)
 
+cast-of-kelvins-2 : tie.Need-cast-of-kelvins-2
+cast-of-kelvins-2 c = search needs
+
 of-kelvins-requires-2 : tie.Need-of-kelvins-requires-2
 of-kelvins-requires-2 c κs = search needs
 
@@ -63,6 +66,7 @@ is-difference-outside-spec =
     of-kelvins-requires
     is-below-requires
     returns-2
+    cast-of-kelvins-2
     of-kelvins-requires-2
     is-below-requires-2
     returns-3)
