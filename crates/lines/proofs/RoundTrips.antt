@@ -33,7 +33,7 @@ use Rattle.lines.proofs.Shape.{lineBytes, numbers-back, size-back, shap
 use Rattle.lines.proofs.LineLaws.{line-of, counted, kind-line, numbers-line, plain}
 use Rattle.lines.proofs.Openings.{opening-length}
 use Rattle.lines.proofs.ReaderRows.{opening-front, opening-sized, opening-read, card-read, four-read}
-use Rattle.lines.proofs.WriterRows.{writable, refused-place, by-text}
+use Rattle.lines.proofs.WriterRows.{next-place, unrefused, refused-place, by-text}
 
 -- ---- the bytes of a line
 
@@ -89,11 +89,6 @@ reads-line (L.Card c) rest h g = reads-card c rest h g
 reads-line (L.Sample s) rest h g = reads-four 83 (L.Sample s) rest (inl refl) refl refl refl h
 reads-line (L.End t) rest h g = reads-four 69 (L.End t) rest (inr refl) refl refl refl h
 
-next-place : (next n : ℕ) (o : Outcome) → placeOf n o ≡ W.Next next → (o ≡ Accepted) × (next ≡ n)
-unfolding placeOf
-next-place next n Accepted e = (refl, sym (cc e))
-next-place next n (Refused r) e = absurd (let z : _≡_ {A = ℕ} 0 1 = cc e in omega arith)
-
 -- the buffer from the place on, after a text was put there
 put-from : (buf : List ℕ) (at : ℕ) (text : List ℕ) → at ≤ length buf → drop at (putAt buf at text) ≡ text ++ drop (at + length text) buf
 unfolding putAt
@@ -104,7 +99,7 @@ pub written-then-read : (buf : List ℕ) (at : ℕ) (line : Line) (next : ℕ) �
 unfolding writtenOf bufferAfter restOf
 written-then-read buf at line next e =
     let p = next-place next (at + length (bytesOf line)) (firstOf (writeRows (length buf) at line)) e in
-    let w = writable (length buf) at line (p .0) in
+    let w = unrefused (length buf) at line (p .0) in
     let after : drop at (putAt buf at (bytesOf line)) ≡ bytesOf line ++ drop (at + length (bytesOf line)) buf = put-from buf at (bytesOf line) (w .within) in
     let size : next - at ≡ length (bytesOf line) = omega (arith, p .1) in
     let place : at + (next - at) ≡ next = omega (arith, p .1) in

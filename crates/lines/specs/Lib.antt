@@ -6,3 +6,4 @@ pub mod Writing
 pub mod RoundTrip
 pub mod Parts
 pub mod Report
+pub mod Theorems

@@ -1,5 +1,6 @@
 -- What writing one line means, document 01, "Archive text": "The writer puts one line into a lent buffer from a given place on, touches no
 -- other byte, and answers the next place." The refusals are the row "Writer" of the table.
+use mathlib.Core.Path.{_≡_}
 use Prim.Native.Nat.{ℕ, _+_, _-_}
 use mathlib.Core.Bool.{Bool, false, _||_}
 use mathlib.Core.List.{List, [], _∷_, _++_}
@@ -33,6 +34,13 @@ placeOf next (O.Refused r) = W.Refused r
 
 unfoldable pub writtenOf : ℕ → ℕ → Line → Written
 writtenOf size at line = placeOf (at + length (bytesOf line)) (firstOf (writeRows size at line))
+
+-- a line that the writer can write, as an archive's are: given some room and a place, it answers a next place
+pub record Writable (line : Line) : Type 0 where
+  pub size : ℕ
+  pub at : ℕ
+  pub next : ℕ
+  pub answers : writtenOf size at line ≡ W.Next next
 
 -- a buffer with a text put in from a place on
 unfoldable pub putAt : List ℕ → ℕ → List ℕ → List ℕ

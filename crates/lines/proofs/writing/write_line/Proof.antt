@@ -8,7 +8,7 @@ use borrow.Author.Needs.{needs}
 use Rattle.lines.specs.Line.{bytesOf}
 use Rattle.lines.specs.declared.line.Written.the-variants.{Next}
 use Rattle.lines.specs.Writing.{placeOf, writtenOf, bufferAfter}
-use Rattle.lines.proofs.WriterRows.{writable}
+use Rattle.lines.proofs.WriterRows.{unrefused}
 use Rattle.lines.proofs.writing.write_line.Statement.{statement}
 use Rattle.lines.proofs.writing.write_line.Tie as tie
 
@@ -21,7 +21,7 @@ enum-told c = search needs
 put-line-requires : tie.Need-put-line-requires
 put-line-requires c κs =
     let a = c .before .before .before .before .before .args in
-    writable (length (now (a .buf))) (a .at) (a .line) (sym (c .before .before .before .write-refusal .ensures) ∙ c .before .enum-told .given .1) .room
+    unrefused (length (now (a .buf))) (a .at) (a .line) (sym (c .before .before .before .write-refusal .ensures) ∙ c .before .enum-told .given .1) .room
 
 enum-known-refusal : tie.Need-enum-known-refusal
 enum-known-refusal c = search needs
