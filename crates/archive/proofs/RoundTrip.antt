@@ -1,16 +1,12 @@
 -- What the archive's theorems rest on of one line: writing then reading, and reading then writing.
 -- Assumes nothing.
 use mathlib.Core.Path.{_≡_}
-use mathlib.Core.Bool.{false}
 use mathlib.Core.List.{List, _++_}
 use Prim.Native.Nat.{ℕ}
 use lib.ListN.{length, drop}
-use Rattle.quantity.specs.Refusals.{NoneApplies}
-use Rattle.meter.specs.Card.{cardRows}
-use Rattle.meter.specs.declared.card.Card.{Card}
-use Rattle.lines.specs.Line.{bytesOf, numbersOf}
-use Rattle.lines.specs.Writing.{someLong}
+use Rattle.lines.specs.Line.{bytesOf}
 use Rattle.lines.specs.Reading.{readOf}
+use Rattle.lines.specs.Theorems.{CardShort}
 use Rattle.lines.specs.declared.line.Line.{Line}
 use Rattle.lines.specs.declared.line.Line.the-variants as L
 use Rattle.lines.specs.declared.line.MayCome.{MayCome}
@@ -34,4 +30,4 @@ pub record ReadBack (may : MayCome) (bs : List ℕ) (line : Line) (n : ℕ) : Ty
 pub record RoundTrip : Type 0 where
   pub write-read : (may : MayCome) (line : Line) (rest : List ℕ) → Due may line → Writable line → readOf may (bytesOf line ++ rest) ≡ F.Read line (length (bytesOf line))
   pub read-write : (may : MayCome) (bs : List ℕ) (line : Line) (n : ℕ) → readOf may bs ≡ F.Read line n → ReadBack may bs line n
-  pub card-short : (c : Card) → NoneApplies (cardRows c) → someLong (numbersOf (L.Card c)) ≡ false
+  pub card-short : CardShort

@@ -1,4 +1,5 @@
 -- Laws and theorems about the archive's lines.
+pub mod Cards
 pub mod Decimals
 pub mod Exactness
 mod Faults
