@@ -10,6 +10,7 @@ use lib.Dec.{ltb, leb, eqb}
 use lib.ListN.{length, getD, length-append, List·getD-append}
 use borrow.Author.Tests.{ltb-true, ltb-false, leb-true, eqb-false, lt-ltb, le-ltb, le-leb, ne-eqb, not-true}
 use Rattle.quantity.proofs.Conditions.{both}
+use Rattle.lines.specs.Bytes.{digitZero, digitNine}
 use Rattle.lines.specs.Number.{decimalBy, decimal, isDigit, areDigits, valueOf, isNumber}
 
 -- ---- digit by digit
@@ -32,11 +33,11 @@ by-more (suc f) (suc g) n p q =
       | false ↦ λ e. let h : 10 ≤ n = ltb-false n 10 e in simp (e, by-more f g (n / 10) (omega arith) (omega arith))
     ] refl
 
-pub decimal-one : (n : ℕ) → n < 10 → decimal n ≡ (48 + n) ∷ []
+pub decimal-one : (n : ℕ) → n < 10 → decimal n ≡ (digitZero + n) ∷ []
 unfolding decimal decimalBy
 decimal-one n h = by-more n 10 n (omega arith) (omega arith) ∙ simp (lt-ltb n 10 h)
 
-pub decimal-step : (n : ℕ) → 10 ≤ n → decimal n ≡ decimal (n / 10) ++ ((48 + n % 10) ∷ [])
+pub decimal-step : (n : ℕ) → 10 ≤ n → decimal n ≡ decimal (n / 10) ++ ((digitZero + n % 10) ∷ [])
 unfolding decimal decimalBy
 decimal-step n h =
     by-more n (suc n) n (omega arith) (omega arith)
@@ -60,17 +61,17 @@ pub true-both : (a b : Bool) → a ≡ true → b ≡ true → (a && b) ≡ true
 true-both true b p q = q
 true-both false b p q = p
 
-pub is-digit : (b : ℕ) → 48 ≤ b → b ≤ 57 → isDigit b ≡ true
+pub is-digit : (b : ℕ) → digitZero ≤ b → b ≤ digitNine → isDigit b ≡ true
 unfolding isDigit
-is-digit b p q = true-both _ _ (le-leb 48 b p) (le-leb b 57 q)
+is-digit b p q = true-both _ _ (le-leb digitZero b p) (le-leb b digitNine q)
 
-pub digit-low : (b : ℕ) → isDigit b ≡ true → 48 ≤ b
+pub digit-low : (b : ℕ) → isDigit b ≡ true → digitZero ≤ b
 unfolding isDigit
-digit-low b p = leb-true 48 b (both (leb 48 b) (leb b 57) p .0)
+digit-low b p = leb-true digitZero b (both (leb digitZero b) (leb b digitNine) p .0)
 
-pub digit-high : (b : ℕ) → isDigit b ≡ true → b ≤ 57
+pub digit-high : (b : ℕ) → isDigit b ≡ true → b ≤ digitNine
 unfolding isDigit
-digit-high b p = leb-true b 57 (both (leb 48 b) (leb b 57) p .1)
+digit-high b p = leb-true b digitNine (both (leb digitZero b) (leb b digitNine) p .1)
 
 pub digits-snoc : (d : List ℕ) (b : ℕ) → areDigits d ≡ true → isDigit b ≡ true → areDigits (d ++ (b ∷ [])) ≡ true
 unfolding areDigits
@@ -84,22 +85,22 @@ unfolding areDigits
 decimal-digits = decimal-ind (λ n. areDigits (decimal n) ≡ true) one step
   where
     one : (n : ℕ) → n < 10 → areDigits (decimal n) ≡ true
-    one n h = simp (decimal-one n h, is-digit (48 + n) (omega arith) (omega arith))
+    one n h = simp (decimal-one n h, is-digit (digitZero + n) (omega arith) (omega arith))
 
     step : (n : ℕ) → 10 ≤ n → areDigits (decimal (n / 10)) ≡ true → areDigits (decimal n) ≡ true
-    step n h ih = rw (decimal-step n h) (digits-snoc (decimal (n / 10)) (48 + n % 10) ih (is-digit (48 + n % 10) (omega arith) (omega arith)))
+    step n h ih = rw (decimal-step n h) (digits-snoc (decimal (n / 10)) (digitZero + n % 10) ih (is-digit (digitZero + n % 10) (omega arith) (omega arith)))
 
 -- ---- the value
 
 in-front : (y p v b : ℕ) → y * (p * 10) + (v * 10 + b) ≡ (y * p + v) * 10 + b
 in-front y p v b = omega arith
 
-pub value-snoc : (d : List ℕ) (b : ℕ) → valueOf (d ++ (b ∷ [])) ≡ valueOf d * 10 + (b - 48)
+pub value-snoc : (d : List ℕ) (b : ℕ) → valueOf (d ++ (b ∷ [])) ≡ valueOf d * 10 + (b - digitZero)
 unfolding valueOf
 value-snoc [] b = omega arith
 value-snoc (x ∷ d) b =
     let l : length (d ++ (b ∷ [])) ≡ suc (length d) = length-append d (b ∷ []) ∙ omega arith in
-    rw (value-snoc d b, l, pow-suc 10 (length d)) (in-front (x - 48) (10 ^ length d) (valueOf d) (b - 48))
+    rw (value-snoc d b, l, pow-suc 10 (length d)) (in-front (x - digitZero) (10 ^ length d) (valueOf d) (b - digitZero))
 
 pub value-decimal : (n : ℕ) → valueOf (decimal n) ≡ n
 unfolding valueOf
@@ -125,9 +126,9 @@ unfolding areDigits valueOf
 value-below [] h = omega arith
 value-below (b ∷ d) h =
     let p = both (isDigit b) (areDigits d) h in
-    let hi : b ≤ 57 = digit-high b (p .0) in
-    let y : b - 48 < 10 = omega arith in
-    rw (pow-suc 10 (length d)) (more-digits (b - 48) (10 ^ length d) (valueOf d) y (value-below d (p .1)))
+    let hi : b ≤ digitNine = digit-high b (p .0) in
+    let y : b - digitZero < 10 = omega arith in
+    rw (pow-suc 10 (length d)) (more-digits (b - digitZero) (10 ^ length d) (valueOf d) y (value-below d (p .1)))
 
 -- ---- how many digits
 
@@ -154,13 +155,13 @@ pub length-step : (n : ℕ) → 10 ≤ n → length (decimal n) ≡ length (deci
 length-step n h = simp (decimal-step n h, length-append)
 
 -- no leading zero
-decimal-lead : (n : ℕ) → 1 ≤ n → getD (decimal n) 0 0 ≡ 48 → ⊥
-decimal-lead = decimal-ind (λ n. 1 ≤ n → getD (decimal n) 0 0 ≡ 48 → ⊥) one step
+decimal-lead : (n : ℕ) → 1 ≤ n → getD (decimal n) 0 0 ≡ digitZero → ⊥
+decimal-lead = decimal-ind (λ n. 1 ≤ n → getD (decimal n) 0 0 ≡ digitZero → ⊥) one step
   where
-    one : (n : ℕ) → n < 10 → 1 ≤ n → getD (decimal n) 0 0 ≡ 48 → ⊥
-    one n h p e = let z : 48 + n ≡ 48 = simp (decimal-one n h) at e in omega arith
+    one : (n : ℕ) → n < 10 → 1 ≤ n → getD (decimal n) 0 0 ≡ digitZero → ⊥
+    one n h p e = let z : digitZero + n ≡ digitZero = simp (decimal-one n h) at e in omega arith
 
-    step : (n : ℕ) → 10 ≤ n → (1 ≤ n / 10 → getD (decimal (n / 10)) 0 0 ≡ 48 → ⊥) → 1 ≤ n → getD (decimal n) 0 0 ≡ 48 → ⊥
+    step : (n : ℕ) → 10 ≤ n → (1 ≤ n / 10 → getD (decimal (n / 10)) 0 0 ≡ digitZero → ⊥) → 1 ≤ n → getD (decimal n) 0 0 ≡ digitZero → ⊥
     step n h ih p e =
         let first : getD (decimal n) 0 0 ≡ getD (decimal (n / 10)) 0 0 = rw (decimal-step n h) (List·getD-append (decimal (n / 10)) _ 0 0 (decimal-pos (n / 10))) in
         ih (omega arith) (sym first ∙ e)
@@ -173,20 +174,20 @@ unfolding isNumber
 decimal-number n h =
     let p : length (decimal n) ≤ 18 = decimal-short n 17 h in
     simp (decimal-digits n, le-leb 1 (length (decimal n)) (decimal-pos n), le-leb (length (decimal n)) 18 p)
-    (elim (ltb n 10) as (λ b. ltb n 10 ≡ b → (eqb (length (decimal n)) 1 || not (eqb (getD (decimal n) 0 0) 48)) ≡ true) [
+    (elim (ltb n 10) as (λ b. ltb n 10 ≡ b → (eqb (length (decimal n)) 1 || not (eqb (getD (decimal n) 0 0) digitZero)) ≡ true) [
       | true ↦ λ e. simp (decimal-one n (ltb-true n 10 e))
-      | false ↦ λ e. simp (ne-eqb (getD (decimal n) 0 0) 48 (decimal-lead n (omega (arith, ltb-false n 10 e))), or-true)
+      | false ↦ λ e. simp (ne-eqb (getD (decimal n) 0 0) digitZero (decimal-lead n (omega (arith, ltb-false n 10 e))), or-true)
     ] refl)
 
 -- digits after a number, by the number so far
 sofar : ℕ → List ℕ → ℕ
 sofar v [] = v
-sofar v (b ∷ d) = sofar (v * 10 + (b - 48)) d
+sofar v (b ∷ d) = sofar (v * 10 + (b - digitZero)) d
 
 sofar-value : (v : ℕ) (d : List ℕ) → sofar v d ≡ v * 10 ^ length d + valueOf d
 unfolding sofar valueOf
 sofar-value v [] = omega arith
-sofar-value v (b ∷ d) = sofar-value (v * 10 + (b - 48)) d ∙ rw (pow-suc 10 (length d)) (next v (b - 48) (10 ^ length d) (valueOf d))
+sofar-value v (b ∷ d) = sofar-value (v * 10 + (b - digitZero)) d ∙ rw (pow-suc 10 (length d)) (next v (b - digitZero) (10 ^ length d) (valueOf d))
   where
     next : (v y p w : ℕ) → (v * 10 + y) * p + w ≡ v * (p * 10) + (y * p + w)
     next v y p w = omega arith
@@ -196,12 +197,12 @@ unfolding sofar areDigits
 decimal-sofar v [] h p = sym (append-nil (decimal v))
 decimal-sofar v (b ∷ d) h p =
     let t = both (isDigit b) (areDigits d) p in
-    let lo : 48 ≤ b = digit-low b (t .0) in
-    let hi : b ≤ 57 = digit-high b (t .0) in
-    let q : (v * 10 + (b - 48)) / 10 ≡ v = omega arith in
-    let r : 48 + (v * 10 + (b - 48)) % 10 ≡ b = omega arith in
-    decimal-sofar (v * 10 + (b - 48)) d (omega arith) (t .1)
-    ∙ simp (decimal-step (v * 10 + (b - 48)) (omega arith), q, r, append-assoc)
+    let lo : digitZero ≤ b = digit-low b (t .0) in
+    let hi : b ≤ digitNine = digit-high b (t .0) in
+    let q : (v * 10 + (b - digitZero)) / 10 ≡ v = omega arith in
+    let r : digitZero + (v * 10 + (b - digitZero)) % 10 ≡ b = omega arith in
+    decimal-sofar (v * 10 + (b - digitZero)) d (omega arith) (t .1)
+    ∙ simp (decimal-step (v * 10 + (b - digitZero)) (omega arith), q, r, append-assoc)
 
 -- LAW: a number's text is the text of what it says
 pub number-decimal : (d : List ℕ) → isNumber d ≡ true → decimal (valueOf d) ≡ d
@@ -209,25 +210,25 @@ unfolding isNumber areDigits valueOf
 number-decimal [] q = absurd (let z : _≡_ {A = ℕ} 0 1 = cc q in omega arith)
 number-decimal (b ∷ []) q =
     let p = both (isDigit b) true (both (isDigit b && true) _ q .0) .0 in
-    let lo : 48 ≤ b = digit-low b p in
-    let hi : b ≤ 57 = digit-high b p in
-    let r : (b - 48) * 10 ^ 0 + 0 ≡ b - 48 = omega arith in
-    let s : 48 + (b - 48) ≡ b = omega arith in
-    rw r (simp (decimal-one (b - 48) (omega arith), s))
+    let lo : digitZero ≤ b = digit-low b p in
+    let hi : b ≤ digitNine = digit-high b p in
+    let r : (b - digitZero) * 10 ^ 0 + 0 ≡ b - digitZero = omega arith in
+    let s : digitZero + (b - digitZero) ≡ b = omega arith in
+    rw r (simp (decimal-one (b - digitZero) (omega arith), s))
 number-decimal (b ∷ x ∷ d) q =
     let n : ℕ = length (b ∷ x ∷ d) in
-    let t = both (areDigits (b ∷ x ∷ d)) (leb 1 n && (leb n 18 && (eqb n 1 || not (eqb b 48)))) q in
+    let t = both (areDigits (b ∷ x ∷ d)) (leb 1 n && (leb n 18 && (eqb n 1 || not (eqb b digitZero)))) q in
     let p = both (isDigit b) (areDigits (x ∷ d)) (t .0) in
-    let lo : 48 ≤ b = digit-low b (p .0) in
-    let hi : b ≤ 57 = digit-high b (p .0) in
-    let r : (eqb n 1 || not (eqb b 48)) ≡ true = both (leb n 18) _ (both (leb 1 n) _ (t .1) .1) .1 in
-    let s : not (eqb b 48) ≡ true = simp (ne-eqb n 1 (λ e. omega arith)) at r in
-    let ne : b ≡ 48 → ⊥ = eqb-false b 48 (not-true (eqb b 48) s) in
-    let k : 1 ≤ b - 48 = omega arith in
-    let z : 48 + (b - 48) ≡ b = omega arith in
-    sym (ap decimal (sofar-value (b - 48) (x ∷ d)))
-    ∙ decimal-sofar (b - 48) (x ∷ d) k (p .1)
-    ∙ simp (decimal-one (b - 48) (omega arith), z)
+    let lo : digitZero ≤ b = digit-low b (p .0) in
+    let hi : b ≤ digitNine = digit-high b (p .0) in
+    let r : (eqb n 1 || not (eqb b digitZero)) ≡ true = both (leb n 18) _ (both (leb 1 n) _ (t .1) .1) .1 in
+    let s : not (eqb b digitZero) ≡ true = simp (ne-eqb n 1 (λ e. omega arith)) at r in
+    let ne : b ≡ digitZero → ⊥ = eqb-false b digitZero (not-true (eqb b digitZero) s) in
+    let k : 1 ≤ b - digitZero = omega arith in
+    let z : digitZero + (b - digitZero) ≡ b = omega arith in
+    sym (ap decimal (sofar-value (b - digitZero) (x ∷ d)))
+    ∙ decimal-sofar (b - digitZero) (x ∷ d) k (p .1)
+    ∙ simp (decimal-one (b - digitZero) (omega arith), z)
 
 -- a number's text says less than 10^18
 pub number-small : (d : List ℕ) → isNumber d ≡ true → valueOf d < 10 ^ 18

@@ -14,6 +14,7 @@ use Rattle.quantity.specs.Refusals.{row, firstOf}
 use Rattle.quantity.specs.declared.refusal.Outcome.{Outcome}
 use Rattle.quantity.specs.declared.refusal.Outcome.the-variants.{Accepted, Refused}
 use Rattle.quantity.proofs.Comparing.{same-equal}
+use Rattle.lines.specs.Bytes.{lineFeed, comma}
 use Rattle.lines.specs.Reading.{isSame, untilEnd, isEnded, sizeOf, withFirst, split, fieldsIn, firstIn, othersIn, areNumbers, numbersIn, isMisshapen, shapeRows}
 use Rattle.lines.specs.Writing.{someLong}
 use Rattle.lines.specs.Parts.{Lettered}
@@ -25,7 +26,7 @@ use Rattle.lines.proofs.Shape.{lineBytes, shape-forth}
 -- k fields so far, of which the last goes on here
 pub fieldsFrom : ℕ → List ℕ → ℕ
 fieldsFrom k [] = 0
-fieldsFrom k (b ∷ bs) = cond (eqb b 10) k (fieldsFrom (cond (eqb b 44) (k + 1) k) bs)
+fieldsFrom k (b ∷ bs) = cond (eqb b lineFeed) k (fieldsFrom (cond (eqb b comma) (k + 1) k) bs)
 
 others-first : (b : ℕ) (l : List (List ℕ)) → Parted l → drop 1 (withFirst b l) ≡ drop 1 l
 unfolding withFirst
@@ -35,10 +36,10 @@ from-others : (k : ℕ) (bs : List ℕ) → fieldsFrom k bs ≡ cond (isEnded bs
 unfolding fieldsFrom isEnded fieldsIn untilEnd split
 from-others k [] = refl
 from-others k (b ∷ bs) =
-    elim (eqb b 10) as (λ t. eqb b 10 ≡ t → fieldsFrom k (b ∷ bs) ≡ cond (isEnded (b ∷ bs)) (k + length (othersIn (b ∷ bs))) 0) [
+    elim (eqb b lineFeed) as (λ t. eqb b lineFeed ≡ t → fieldsFrom k (b ∷ bs) ≡ cond (isEnded (b ∷ bs)) (k + length (othersIn (b ∷ bs))) 0) [
       | true ↦ λ e. simp e (omega arith)
       | false ↦ λ e.
-          (elim (eqb b 44) as (λ t. eqb b 44 ≡ t → fieldsFrom k (b ∷ bs) ≡ cond (isEnded (b ∷ bs)) (k + length (othersIn (b ∷ bs))) 0) [
+          (elim (eqb b comma) as (λ t. eqb b comma ≡ t → fieldsFrom k (b ∷ bs) ≡ cond (isEnded (b ∷ bs)) (k + length (othersIn (b ∷ bs))) 0) [
             | true ↦ λ g.
                 let l : k + 1 + length (othersIn bs) ≡ k + length (fieldsIn bs) = omega (arith, length-parted (fieldsIn bs) (split-parted (untilEnd bs))) in
                 simp (e, g, from-others (k + 1) bs, l)
@@ -57,17 +58,17 @@ abbrev pub CountedTo : List ℕ → ℕ → ℕ → Type 0
 CountedTo bs k i = fieldsFrom 1 bs ≡ fieldsFrom k (drop i bs)
 
 module _ (bs : List ℕ) (k i : ℕ) (c : CountedTo bs k i) where
-  pub counted-end : i < length bs → getD bs i 0 ≡ 10 → fieldsFrom 1 bs ≡ k
+  pub counted-end : i < length bs → getD bs i 0 ≡ lineFeed → fieldsFrom 1 bs ≡ k
   unfolding fieldsFrom
-  counted-end h e = c ∙ rw (drop-cons bs i 0) (simp (eq-eqb (getD bs i 0) 10 e))
+  counted-end h e = c ∙ rw (drop-cons bs i 0) (simp (eq-eqb (getD bs i 0) lineFeed e))
 
-  pub counted-comma : i < length bs → (getD bs i 0 ≡ 10 → ⊥) → getD bs i 0 ≡ 44 → CountedTo bs (k + 1) (i + 1)
+  pub counted-comma : i < length bs → (getD bs i 0 ≡ lineFeed → ⊥) → getD bs i 0 ≡ comma → CountedTo bs (k + 1) (i + 1)
   unfolding fieldsFrom
-  counted-comma h e g = c ∙ rw (add-one i, drop-cons bs i 0) (simp (ne-eqb (getD bs i 0) 10 e, eq-eqb (getD bs i 0) 44 g))
+  counted-comma h e g = c ∙ rw (add-one i, drop-cons bs i 0) (simp (ne-eqb (getD bs i 0) lineFeed e, eq-eqb (getD bs i 0) comma g))
 
-  pub counted-other : i < length bs → (getD bs i 0 ≡ 10 → ⊥) → (getD bs i 0 ≡ 44 → ⊥) → CountedTo bs k (i + 1)
+  pub counted-other : i < length bs → (getD bs i 0 ≡ lineFeed → ⊥) → (getD bs i 0 ≡ comma → ⊥) → CountedTo bs k (i + 1)
   unfolding fieldsFrom
-  counted-other h e g = c ∙ rw (add-one i, drop-cons bs i 0) (simp (ne-eqb (getD bs i 0) 10 e, ne-eqb (getD bs i 0) 44 g))
+  counted-other h e g = c ∙ rw (add-one i, drop-cons bs i 0) (simp (ne-eqb (getD bs i 0) lineFeed e, ne-eqb (getD bs i 0) comma g))
 
   pub counted-out : length bs ≤ i → fieldsFrom 1 bs ≡ 0
   unfolding fieldsFrom
@@ -80,22 +81,22 @@ unfolding withFirst
 first-of b l (parted f fs) = refl
 
 -- a letter stands in front of the field that follows it
-first-letter : (b : ℕ) (bs : List ℕ) → 44 < b → firstIn (b ∷ bs) ≡ b ∷ firstIn bs
+first-letter : (b : ℕ) (bs : List ℕ) → comma < b → firstIn (b ∷ bs) ≡ b ∷ firstIn bs
 unfolding fieldsIn untilEnd split
 first-letter b bs h =
-    simp (ne-eqb b 10 (λ e. omega arith), ne-eqb b 44 (λ e. omega arith)) (first-of b (split (untilEnd bs)) (split-parted (untilEnd bs)))
+    simp (ne-eqb b lineFeed (λ e. omega arith), ne-eqb b comma (λ e. omega arith)) (first-of b (split (untilEnd bs)) (split-parted (untilEnd bs)))
 
-empty-end : (b : ℕ) (bs : List ℕ) → b ≡ 10 → firstIn (b ∷ bs) ≡ []
+empty-end : (b : ℕ) (bs : List ℕ) → b ≡ lineFeed → firstIn (b ∷ bs) ≡ []
 unfolding fieldsIn untilEnd split
-empty-end b bs e = simp (eq-eqb b 10 e)
+empty-end b bs e = simp (eq-eqb b lineFeed e)
 
-empty-comma : (b : ℕ) (bs : List ℕ) → b ≡ 44 → firstIn (b ∷ bs) ≡ []
+empty-comma : (b : ℕ) (bs : List ℕ) → b ≡ comma → firstIn (b ∷ bs) ≡ []
 unfolding fieldsIn untilEnd split
-empty-comma b bs e = simp (ne-eqb b 10 (λ g. omega arith), eq-eqb b 44 e)
+empty-comma b bs e = simp (ne-eqb b lineFeed (λ g. omega arith), eq-eqb b comma e)
 
-not-empty : (b : ℕ) (bs : List ℕ) → (b ≡ 10 → ⊥) → (b ≡ 44 → ⊥) → isSame (firstIn (b ∷ bs)) [] ≡ false
+not-empty : (b : ℕ) (bs : List ℕ) → (b ≡ lineFeed → ⊥) → (b ≡ comma → ⊥) → isSame (firstIn (b ∷ bs)) [] ≡ false
 unfolding fieldsIn untilEnd split isSame
-not-empty b bs e g = simp (ne-eqb b 10 e, ne-eqb b 44 g) (rw (first-of b (split (untilEnd bs)) (split-parted (untilEnd bs))))
+not-empty b bs e g = simp (ne-eqb b lineFeed e, ne-eqb b comma g) (rw (first-of b (split (untilEnd bs)) (split-parted (untilEnd bs))))
 
 same-letter : (b : ℕ) (f : List ℕ) → isSame (b ∷ f) (b ∷ []) ≡ isSame f []
 unfolding isSame
@@ -114,30 +115,30 @@ module _ (letter : ℕ) where
   alone-short (b ∷ []) l h = alone (b ∷ []) l
   alone-short (b ∷ x ∷ bs) l h = absurd (omega arith)
 
-  pub alone-comma : (bs : List ℕ) → Lettered letter bs → getD bs 1 0 ≡ 44 → isSame (firstIn bs) (letter ∷ []) ≡ true
+  pub alone-comma : (bs : List ℕ) → Lettered letter bs → getD bs 1 0 ≡ comma → isSame (firstIn bs) (letter ∷ []) ≡ true
   unfolding isSame
   alone-comma [] l h = absurd (omega (arith, l .some))
-  alone-comma (b ∷ []) l h = absurd (let z : _≡_ {A = ℕ} 0 44 = h in omega arith)
+  alone-comma (b ∷ []) l h = absurd (let z : _≡_ {A = ℕ} 0 comma = h in omega arith)
   alone-comma (b ∷ x ∷ bs) l h = alone (b ∷ x ∷ bs) l ∙ rw (empty-comma x bs h)
 
-  alone-end : (bs : List ℕ) → Lettered letter bs → getD bs 1 0 ≡ 10 → isSame (firstIn bs) (letter ∷ []) ≡ true
+  alone-end : (bs : List ℕ) → Lettered letter bs → getD bs 1 0 ≡ lineFeed → isSame (firstIn bs) (letter ∷ []) ≡ true
   unfolding isSame
   alone-end [] l h = absurd (omega (arith, l .some))
-  alone-end (b ∷ []) l h = absurd (let z : _≡_ {A = ℕ} 0 10 = h in omega arith)
+  alone-end (b ∷ []) l h = absurd (let z : _≡_ {A = ℕ} 0 lineFeed = h in omega arith)
   alone-end (b ∷ x ∷ bs) l h = alone (b ∷ x ∷ bs) l ∙ rw (empty-end x bs h)
 
-  not-alone : (bs : List ℕ) → Lettered letter bs → 2 ≤ length bs → (getD bs 1 0 ≡ 44 → ⊥) → (getD bs 1 0 ≡ 10 → ⊥) → isSame (firstIn bs) (letter ∷ []) ≡ false
+  not-alone : (bs : List ℕ) → Lettered letter bs → 2 ≤ length bs → (getD bs 1 0 ≡ comma → ⊥) → (getD bs 1 0 ≡ lineFeed → ⊥) → isSame (firstIn bs) (letter ∷ []) ≡ false
   not-alone [] l h g e = absurd (omega (arith, l .some))
   not-alone (b ∷ []) l h g e = absurd (omega arith)
   not-alone (b ∷ x ∷ bs) l h g e = alone (b ∷ x ∷ bs) l ∙ not-empty x bs e g
 
   -- after the letter, no comma
-  pub alone-by-end : (bs : List ℕ) → Lettered letter bs → 2 ≤ length bs → (getD bs 1 0 ≡ 44 → ⊥) → eqb (getD bs 1 0) 10 ≡ isSame (firstIn bs) (letter ∷ [])
-  alone-by-end bs l h g = go (eqb (getD bs 1 0) 10) refl
+  pub alone-by-end : (bs : List ℕ) → Lettered letter bs → 2 ≤ length bs → (getD bs 1 0 ≡ comma → ⊥) → eqb (getD bs 1 0) lineFeed ≡ isSame (firstIn bs) (letter ∷ [])
+  alone-by-end bs l h g = go (eqb (getD bs 1 0) lineFeed) refl
     where
-      go : (t : Bool) → eqb (getD bs 1 0) 10 ≡ t → t ≡ isSame (firstIn bs) (letter ∷ [])
-      go true e = sym (alone-end bs l (eqb-true (getD bs 1 0) 10 e))
-      go false e = sym (not-alone bs l h g (eqb-false (getD bs 1 0) 10 e))
+      go : (t : Bool) → eqb (getD bs 1 0) lineFeed ≡ t → t ≡ isSame (firstIn bs) (letter ∷ [])
+      go true e = sym (alone-end bs l (eqb-true (getD bs 1 0) lineFeed e))
+      go false e = sym (not-alone bs l h g (eqb-false (getD bs 1 0) lineFeed e))
 
 -- ---- 61 or 62
 

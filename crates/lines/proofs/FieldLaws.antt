@@ -10,6 +10,7 @@ use lib.Dec.{eqb}
 use lib.ListN.{length, getD, drop, length-append}
 use borrow.Author.Tests.{eq-eqb, ne-eqb, eqb-true}
 use Rattle.quantity.proofs.Conditions.{both}
+use Rattle.lines.specs.Bytes.{comma}
 use Rattle.lines.specs.Number.{decimal, isDigit, areDigits, valueOf, isNumber}
 use Rattle.lines.specs.Parts.{run, numberAt, oneMore, fieldAt}
 use Rattle.lines.specs.declared.number.Field.{Field}
@@ -23,15 +24,15 @@ unfolding fieldAt
 field-empty [] h = refl
 field-empty (b ∷ bs) h = absurd (omega arith)
 
-pub field-other : (bs : List ℕ) → (getD bs 0 0 ≡ 44 → ⊥) → fieldAt bs ≡ Missing
+pub field-other : (bs : List ℕ) → (getD bs 0 0 ≡ comma → ⊥) → fieldAt bs ≡ Missing
 unfolding fieldAt
 field-other [] h = refl
-field-other (b ∷ bs) h = simp (ne-eqb b 44 h)
+field-other (b ∷ bs) h = simp (ne-eqb b comma h)
 
-pub field-comma : (bs : List ℕ) → getD bs 0 0 ≡ 44 → fieldAt bs ≡ oneMore (numberAt (drop 1 bs))
+pub field-comma : (bs : List ℕ) → getD bs 0 0 ≡ comma → fieldAt bs ≡ oneMore (numberAt (drop 1 bs))
 unfolding fieldAt
-field-comma [] h = absurd (let z : _≡_ {A = ℕ} 0 44 = h in omega arith)
-field-comma (b ∷ bs) h = simp (eq-eqb b 44 h)
+field-comma [] h = absurd (let z : _≡_ {A = ℕ} 0 comma = h in omega arith)
+field-comma (b ∷ bs) h = simp (eq-eqb b comma h)
 
 -- ---- a number
 
@@ -87,28 +88,28 @@ number-forth bs v n h =
 -- ---- a field
 
 -- LAW: what is written is read back
-pub field-back : (v : ℕ) (rest : List ℕ) → v < 10 ^ 18 → run rest ≡ [] → fieldAt (44 ∷ (decimal v ++ rest)) ≡ Number v (length (decimal v) + 1)
+pub field-back : (v : ℕ) (rest : List ℕ) → v < 10 ^ 18 → run rest ≡ [] → fieldAt (comma ∷ (decimal v ++ rest)) ≡ Number v (length (decimal v) + 1)
 unfolding oneMore
-field-back v rest h e = field-comma (44 ∷ (decimal v ++ rest)) refl ∙ rw (number-back v rest h e)
+field-back v rest h e = field-comma (comma ∷ (decimal v ++ rest)) refl ∙ rw (number-back v rest h e)
 
 -- LAW: what is read is what is written
 pub record IsField (bs : List ℕ) (v n : ℕ) : Type 0 where
   pub small : v < 10 ^ 18
   pub counted : n ≡ length (decimal v) + 1
-  pub front : bs ≡ 44 ∷ (decimal v ++ drop n bs)
+  pub front : bs ≡ comma ∷ (decimal v ++ drop n bs)
 
 pub field-forth : (bs : List ℕ) (v n : ℕ) → fieldAt bs ≡ Number v n → IsField bs v n
 unfolding fieldAt oneMore
 field-forth [] v n h = absurd (let z : _≡_ {A = ℕ} 0 1 = cc h in omega arith)
 field-forth (b ∷ bs) v n h =
-    elim (eqb b 44) as (λ t. eqb b 44 ≡ t → IsField (b ∷ bs) v n) [
+    elim (eqb b comma) as (λ t. eqb b comma ≡ t → IsField (b ∷ bs) v n) [
       | true ↦ λ t. after t (numberAt bs) refl (simp t at h)
       | false ↦ λ t.
           let g : Missing ≡ Number v n = simp t at h in
           absurd (let z : _≡_ {A = ℕ} 0 1 = cc in omega arith)
     ] refl
   where
-    after : eqb b 44 ≡ true → (f : Field) → numberAt bs ≡ f → oneMore f ≡ Number v n → IsField (b ∷ bs) v n
+    after : eqb b comma ≡ true → (f : Field) → numberAt bs ≡ f → oneMore f ≡ Number v n → IsField (b ∷ bs) v n
     after t (Number w m) e g =
         let a : w ≡ v = cc g in
         let l : m + 1 ≡ n = cc g in
@@ -118,7 +119,7 @@ field-forth (b ∷ bs) v n h =
         record {
           small = rw a at (k .small);
           counted = sym l ∙ ap (λ (i : ℕ). i + 1) (k .counted) ∙ rw a;
-          front = rw (d, ← a) (rw (eqb-true b 44 t) (ap (λ (r : List ℕ). 44 ∷ r) f));
+          front = rw (d, ← a) (rw (eqb-true b comma t) (ap (λ (r : List ℕ). comma ∷ r) f));
         }
     after t Missing e g = absurd (let z : _≡_ {A = ℕ} 0 1 = cc g in omega arith)
 

@@ -9,6 +9,7 @@ use native.Mathlib.Numerals.{add-one}
 use lib.ListN.{length, getD, take, drop, set, length-append, length-set, drop-of-length-le}
 use lib.Seq.{drop-cons, length-take-le}
 use borrow.Author.Tests.{le-leb, lt-leb}
+use Rattle.lines.specs.Bytes.{lineFeed, comma}
 use Rattle.lines.specs.Number.{decimal, isLong}
 use Rattle.lines.specs.Line.{kindOf, firstField, numbersOf, afterCommas, textOf, bytesOf}
 use Rattle.lines.specs.Writing.{someLong, putAt}
@@ -39,7 +40,7 @@ module _ (ns : List ℕ) (i : ℕ) where
 abbrev textFrom : List ℕ → ℕ → List ℕ
 textFrom ns i = afterCommas (map decimal (drop i ns))
 
-text-one : (ns : List ℕ) (i : ℕ) → i < length ns → textFrom ns i ≡ (44 ∷ decimal (getD ns i 0)) ++ textFrom ns (i + 1)
+text-one : (ns : List ℕ) (i : ℕ) → i < length ns → textFrom ns i ≡ (comma ∷ decimal (getD ns i 0)) ++ textFrom ns (i + 1)
 unfolding afterCommas
 text-one ns i h = rw (add-one, drop-cons ns i 0 h)
 
@@ -66,7 +67,7 @@ module _ (ns : List ℕ) (sum i : ℕ) (c : Counted ns sum i) where
       let small : sum ≤ 21 * i = c .small in
       let w : length (decimal (getD ns i 0)) ≤ 20 = width-small (getD ns i 0) g in
       let l : length (textFrom ns i) ≡ suc (length (decimal (getD ns i 0))) + length (textFrom ns (i + 1)) =
-      ap length (text-one ns i h) ∙ length-append (44 ∷ decimal (getD ns i 0)) (textFrom ns (i + 1)) in
+      ap length (text-one ns i h) ∙ length-append (comma ∷ decimal (getD ns i 0)) (textFrom ns (i + 1)) in
       record { few = omega arith; small = omega arith; left = omega (arith, c .left) }
 
   pub counted-all : length ns ≤ i → sum ≡ length (textFrom ns 0)
@@ -89,18 +90,18 @@ module _ (xs : List ℕ) (at : ℕ) (ns ys : List ℕ) (k i : ℕ) (p : Progress
   sizes = sym (length-append (p .text) (textFrom ns i)) ∙ ap length (p .left)
 
   module _ (h : i < length ns) where
-    fits : at + length (p .text) + length (44 ∷ decimal (getD ns i 0)) ≤ length xs
-    fits = omega (arith, sizes, ap length (text-one ns i h) ∙ length-append (44 ∷ decimal (getD ns i 0)) (textFrom ns (i + 1)))
+    fits : at + length (p .text) + length (comma ∷ decimal (getD ns i 0)) ≤ length xs
+    fits = omega (arith, sizes, ap length (text-one ns i h) ∙ length-append (comma ∷ decimal (getD ns i 0)) (textFrom ns (i + 1)))
 
-    pub next-room : k + length (44 ∷ decimal (getD ns i 0)) ≤ length ys
-    next-room = wrote-room xs at (p .text) ys k (p .wrote) (44 ∷ decimal (getD ns i 0)) fits
+    pub next-room : k + length (comma ∷ decimal (getD ns i 0)) ≤ length ys
+    next-room = wrote-room xs at (p .text) ys k (p .wrote) (comma ∷ decimal (getD ns i 0)) fits
 
-    pub next : (zs : List ℕ) (r : ℕ) → (r ≡ k + length (44 ∷ decimal (getD ns i 0))) × (zs ≡ putAt ys k (44 ∷ decimal (getD ns i 0))) → Progress xs at ns zs r (i + 1)
+    pub next : (zs : List ℕ) (r : ℕ) → (r ≡ k + length (comma ∷ decimal (getD ns i 0))) × (zs ≡ putAt ys k (comma ∷ decimal (getD ns i 0))) → Progress xs at ns zs r (i + 1)
     next zs r e = record {
       few = omega arith;
-      text = p .text ++ (44 ∷ decimal (getD ns i 0));
-      wrote = wrote-more xs at (p .text) ys k (p .wrote) (44 ∷ decimal (getD ns i 0)) fits zs r e;
-      left = append-assoc (p .text) (44 ∷ decimal (getD ns i 0)) (textFrom ns (i + 1)) ∙ ap (λ (l : List ℕ). p .text ++ l) (sym (text-one ns i h)) ∙ p .left;
+      text = p .text ++ (comma ∷ decimal (getD ns i 0));
+      wrote = wrote-more xs at (p .text) ys k (p .wrote) (comma ∷ decimal (getD ns i 0)) fits zs r e;
+      left = append-assoc (p .text) (comma ∷ decimal (getD ns i 0)) (textFrom ns (i + 1)) ∙ ap (λ (l : List ℕ). p .text ++ l) (sym (text-one ns i h)) ∙ p .left;
     }
 
   pub same-long : length ys ≡ length xs
@@ -128,9 +129,9 @@ module _ (xs : List ℕ) (at letter : ℕ) (ns : List ℕ) (room : at + length (
     pub end-room : k < length ys
     end-room = omega (arith, sizes-text, e .0, wrote-length xs at ((letter ∷ []) ++ textFrom ns 0) ys k put [] (omega (arith, sizes-text)))
 
-    pub text-put : Wrote xs at (textOf (letter ∷ []) ns) (set ys k 10) (k + 1)
+    pub text-put : Wrote xs at (textOf (letter ∷ []) ns) (set ys k lineFeed) (k + 1)
     unfolding textOf
-    text-put = wrote-set xs at ((letter ∷ []) ++ textFrom ns 0) ys k 10 put (omega (arith, sizes-text))
+    text-put = wrote-set xs at ((letter ∷ []) ++ textFrom ns 0) ys k lineFeed put (omega (arith, sizes-text))
 
 -- ---- a line's numbers as they are listed
 

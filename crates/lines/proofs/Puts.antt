@@ -7,6 +7,7 @@ use native.Mathlib.Omega.{arith}
 use native.Mathlib.Numerals.{add-one}
 use lib.ListN.{length, getD, take, drop, set, length-append, length-take, length-drop, length-set, take-append-drop, drop-of-length-le}
 use lib.Seq.{set-at, drop-cons, getD-set-same, drop-set-lt, set-split, take-all, drop-drop, take-at, drop-at, length-take-le, drop-length, take-suc}
+use Rattle.lines.specs.Bytes.{comma, digitZero}
 use Rattle.lines.specs.Number.{decimal}
 use Rattle.lines.specs.Writing.{putAt}
 use Rattle.lines.specs.Parts.{lastDigits}
@@ -35,20 +36,20 @@ drop-set-same l i a h =
     drop-cons (set l i a) i 0 g ∙ simp (getD-set-same l i a 0 h, drop-set-lt (suc i) l i a (omega arith))
 
 -- one digit less to write
-pub digit-turn : (l : List ℕ) (i j r : ℕ) → j ≡ i + 1 → i < length l → lastDigits i (r / 10) ++ drop i (set l i (48 + r % 10)) ≡ lastDigits j r ++ drop j l
+pub digit-turn : (l : List ℕ) (i j r : ℕ) → j ≡ i + 1 → i < length l → lastDigits i (r / 10) ++ drop i (set l i (digitZero + r % 10)) ≡ lastDigits j r ++ drop j l
 unfolding lastDigits
-digit-turn l i j r e h = rw (e, add-one, drop-set-same l i (48 + r % 10)) (sym (append-assoc (lastDigits i (r / 10)) ((48 + r % 10) ∷ []) (drop (suc i) l)))
+digit-turn l i j r e h = rw (e, add-one, drop-set-same l i (digitZero + r % 10)) (sym (append-assoc (lastDigits i (r / 10)) ((digitZero + r % 10) ∷ []) (drop (suc i) l)))
 
 -- a part lent after its first byte comes back with the digits of x, and a comma is stored before them
 pub put-field : (part ys : List ℕ) (w x : ℕ) → w ≡ length (decimal x) → w < length part → ys ≡ lastDigits w x ++ drop w (take (length part - 1) (drop 1 part))
-    → set (take 1 part ++ (ys ++ drop (length part - 1) (drop 1 part))) 0 44 ≡ 44 ∷ (decimal x ++ drop (w + 1) part)
+    → set (take 1 part ++ (ys ++ drop (length part - 1) (drop 1 part))) 0 comma ≡ comma ∷ (decimal x ++ drop (w + 1) part)
 put-field [] ys w x m h e = absurd (omega arith)
 put-field (p ∷ ps) ys w x m h e =
     let k : length (p ∷ ps) - 1 ≡ length ps = omega arith in
     let digits : lastDigits w x ≡ decimal x = rw m (all-digits x) in
     let ys-is : ys ≡ decimal x ++ drop w ps = e ∙ rw (k, digits, take-all (length ps) ps (omega arith)) in
     let none : drop (length ps) ps ≡ [] = drop-length ps in
-    ap (λ (l : List ℕ). 44 ∷ l) (rw (k, none, append-nil) (ys-is ∙ rw add-one))
+    ap (λ (l : List ℕ). comma ∷ l) (rw (k, none, append-nil) (ys-is ∙ rw add-one))
 
 -- one byte more of f
 pub put-more : (d f : List ℕ) (i : ℕ) → i < length f → i < length d → set (take i f ++ drop i d) i (getD f i 0) ≡ take (i + 1) f ++ drop (i + 1) d

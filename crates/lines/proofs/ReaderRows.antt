@@ -15,6 +15,7 @@ use Rattle.quantity.specs.declared.refusal.Outcome.the-variants.{Accepted, Refu
 use Rattle.quantity.proofs.Rows.{parts, orElse}
 use Rattle.meter.specs.Card.{fieldsOf, cardRows}
 use Rattle.meter.specs.declared.card.Card.{Card}
+use Rattle.lines.specs.Bytes.{lineFeed, comma, letterC, letterE, letterS}
 use Rattle.lines.specs.Number.{decimal, decimalBy}
 use Rattle.lines.specs.Line.{Kind, opening, sample, totals, kindOf, firstField, numbersOf, afterCommas, textOf, bytesOf, contentRows, countOf, cardOf, lineOf}
 use Rattle.lines.specs.Reading.{isSame, untilEnd, sizeOf, split, fieldsIn, firstIn, numbersIn, shapeRows, dueKind, lineIn, lineRows, readRows, answerOf, readOf}
@@ -62,16 +63,16 @@ pub other-letter : (letter : ℕ) (bs : List ℕ) → (getD bs 0 0 ≡ letter �
 unfolding fieldsIn untilEnd split isSame
 other-letter letter [] h = refl
 other-letter letter (b ∷ bs) h =
-    elim (eqb b 10) as (λ t. eqb b 10 ≡ t → isSame (firstIn (b ∷ bs)) (letter ∷ []) ≡ false) [
+    elim (eqb b lineFeed) as (λ t. eqb b lineFeed ≡ t → isSame (firstIn (b ∷ bs)) (letter ∷ []) ≡ false) [
       | true ↦ λ e. simp e
       | false ↦ λ e.
-          (elim (eqb b 44) as (λ t. eqb b 44 ≡ t → isSame (firstIn (b ∷ bs)) (letter ∷ []) ≡ false) [
+          (elim (eqb b comma) as (λ t. eqb b comma ≡ t → isSame (firstIn (b ∷ bs)) (letter ∷ []) ≡ false) [
             | true ↦ λ g. simp (e, g)
             | false ↦ λ g. simp (e, g) (rw (first-of b (split (untilEnd bs)) (split-parted (untilEnd bs))) (simp (ne-eqb b letter h)))
           ] refl)
     ] refl
 
-pub lettered : (letter : ℕ) (bs : List ℕ) → getD bs 0 0 ≡ letter → 44 < letter → Lettered letter bs
+pub lettered : (letter : ℕ) (bs : List ℕ) → getD bs 0 0 ≡ letter → comma < letter → Lettered letter bs
 lettered letter [] e h = absurd (let z : _≡_ {A = ℕ} 0 letter = e in omega arith)
 lettered letter (b ∷ bs) e h = record { some = omega arith; first = e; apart = h }
 
@@ -83,20 +84,20 @@ shape-other first count bs h = simp (misshapen-first first count bs h)
 -- ---- the card's line
 
 module _ (bs : List ℕ) where
-  card-rows : firstOf (readRows M.Card bs) ≡ orElse (firstOf (shapeRows (67 ∷ []) 12 bs)) (firstOf (cardRows (cardOf (numbersIn bs))))
+  card-rows : firstOf (readRows M.Card bs) ≡ orElse (firstOf (shapeRows (letterC ∷ []) 12 bs)) (firstOf (cardRows (cardOf (numbersIn bs))))
   unfolding readRows lineRows firstField countOf contentRows lineOf dueKind
-  card-rows = parts (shapeRows (67 ∷ []) 12 bs) (cardRows (cardOf (numbersIn bs)))
+  card-rows = parts (shapeRows (letterC ∷ []) 12 bs) (cardRows (cardOf (numbersIn bs)))
 
-  pub card-refused : (r : ℕ) → firstOf (shapeRows (67 ∷ []) 12 bs) ≡ Refused r → readOf M.Card bs ≡ F.Refused r
+  pub card-refused : (r : ℕ) → firstOf (shapeRows (letterC ∷ []) 12 bs) ≡ Refused r → readOf M.Card bs ≡ F.Refused r
   unfolding readOf answerOf
   card-refused r e =
       let rows : firstOf (readRows M.Card bs) ≡ Refused r = card-rows ∙ rw e in
       rw rows
 
-  pub card-other : (getD bs 0 0 ≡ 67 → ⊥) → readOf M.Card bs ≡ F.Refused 61
-  card-other h = card-refused 61 (shape-other (67 ∷ []) 12 bs (other-letter 67 bs h))
+  pub card-other : (getD bs 0 0 ≡ letterC → ⊥) → readOf M.Card bs ≡ F.Refused 61
+  card-other h = card-refused 61 (shape-other (letterC ∷ []) 12 bs (other-letter letterC bs h))
 
-  pub card-read : (c : Card) → firstOf (shapeRows (67 ∷ []) 12 bs) ≡ Accepted → fieldsOf c ≡ numbersIn bs
+  pub card-read : (c : Card) → firstOf (shapeRows (letterC ∷ []) 12 bs) ≡ Accepted → fieldsOf c ≡ numbersIn bs
       → readOf M.Card bs ≡ answerOf (L.Card c) (sizeOf bs) (firstOf (cardRows c))
   unfolding readOf lineIn lineOf dueKind
   card-read c e f =
@@ -124,28 +125,28 @@ module _ (bs : List ℕ) where
   unfolding readOf lineIn readRows lineRows
   by-kind k e none = rw (e, none (numbersIn bs), append-nil)
 
-  other-end : (getD bs 0 0 ≡ 69 → ⊥) → dueKind M.SampleOrEnd bs ≡ sample
+  other-end : (getD bs 0 0 ≡ letterE → ⊥) → dueKind M.SampleOrEnd bs ≡ sample
   unfolding dueKind firstField
-  other-end h = rw (other-letter 69 bs h)
+  other-end h = rw (other-letter letterE bs h)
 
-  sample-read : getD bs 0 0 ≡ 83 → (o : Outcome) → firstOf (shapeRows (83 ∷ []) 4 bs) ≡ o
+  sample-read : getD bs 0 0 ≡ letterS → (o : Outcome) → firstOf (shapeRows (letterS ∷ []) 4 bs) ≡ o
       → readOf M.SampleOrEnd bs ≡ answerOf (lineOf sample (numbersIn bs)) (sizeOf bs) o
   unfolding firstField countOf
   sample-read h o e = by-kind sample (other-end (λ g. omega arith)) sample-content ∙ rw e
 
-  pub neither-read : (getD bs 0 0 ≡ 83 → ⊥) → (getD bs 0 0 ≡ 69 → ⊥) → readOf M.SampleOrEnd bs ≡ F.Refused 61
+  pub neither-read : (getD bs 0 0 ≡ letterS → ⊥) → (getD bs 0 0 ≡ letterE → ⊥) → readOf M.SampleOrEnd bs ≡ F.Refused 61
   unfolding firstField countOf answerOf
-  neither-read h g = by-kind sample (other-end g) sample-content ∙ rw (shape-other (83 ∷ []) 4 bs (other-letter 83 bs h))
+  neither-read h g = by-kind sample (other-end g) sample-content ∙ rw (shape-other (letterS ∷ []) 4 bs (other-letter letterS bs h))
 
-  end-read : getD bs 0 0 ≡ 69 → (o : Outcome) → firstOf (shapeRows (69 ∷ []) 4 bs) ≡ o
+  end-read : getD bs 0 0 ≡ letterE → (o : Outcome) → firstOf (shapeRows (letterE ∷ []) 4 bs) ≡ o
       → readOf M.SampleOrEnd bs ≡ answerOf (lineOf totals (numbersIn bs)) (sizeOf bs) o
   unfolding firstField countOf answerOf dueKind
   end-read h o e =
-      elim (isSame (firstIn bs) (69 ∷ [])) as (λ t. isSame (firstIn bs) (69 ∷ []) ≡ t → readOf M.SampleOrEnd bs ≡ answerOf (lineOf totals (numbersIn bs)) (sizeOf bs) o) [
+      elim (isSame (firstIn bs) (letterE ∷ [])) as (λ t. isSame (firstIn bs) (letterE ∷ []) ≡ t → readOf M.SampleOrEnd bs ≡ answerOf (lineOf totals (numbersIn bs)) (sizeOf bs) o) [
         | true ↦ λ t. by-kind totals (rw t) totals-content ∙ rw e
         | false ↦ λ t.
-            let s : readOf M.SampleOrEnd bs ≡ F.Refused 61 = by-kind sample (rw t) sample-content ∙ rw (shape-other (83 ∷ []) 4 bs (other-letter 83 bs (λ g. omega arith))) in
-            let r : o ≡ Refused 61 = sym e ∙ shape-other (69 ∷ []) 4 bs t in
+            let s : readOf M.SampleOrEnd bs ≡ F.Refused 61 = by-kind sample (rw t) sample-content ∙ rw (shape-other (letterS ∷ []) 4 bs (other-letter letterS bs (λ g. omega arith))) in
+            let r : o ≡ Refused 61 = sym e ∙ shape-other (letterE ∷ []) 4 bs t in
             s ∙ rw r
       ] refl
 
@@ -169,14 +170,14 @@ numbers-refused first bs out x r (all e f) g = absurd (let z : _≡_ {A = ℕ} 0
 numbers-refused first bs out x r (refused s e) g = let k : s ≡ r = cc g in rw k at e
 
 module _ (bs out : List ℕ) (x : Numbers) where
-  pub card-all : (n : ℕ) (c : Card) → NumbersRead (67 ∷ []) bs out x → x ≡ A.All n → length out ≡ 12 → fieldsOf c ≡ out
+  pub card-all : (n : ℕ) (c : Card) → NumbersRead (letterC ∷ []) bs out x → x ≡ A.All n → length out ≡ 12 → fieldsOf c ≡ out
       → answerOf (L.Card c) n (firstOf (cardRows c)) ≡ readOf M.Card bs
   card-all n c h e k f =
-      let a = numbers-all (67 ∷ []) bs out x n h e in
+      let a = numbers-all (letterC ∷ []) bs out x n h e in
       rw (a .1 .1) (sym (card-read bs c (rw k at (a .0)) (f ∙ a .1 .0)))
 
-  pub card-none : (r : ℕ) → NumbersRead (67 ∷ []) bs out x → x ≡ A.Refused r → length out ≡ 12 → F.Refused r ≡ readOf M.Card bs
-  card-none r h e k = sym (card-refused bs r (rw k at (numbers-refused (67 ∷ []) bs out x r h e)))
+  pub card-none : (r : ℕ) → NumbersRead (letterC ∷ []) bs out x → x ≡ A.Refused r → length out ≡ 12 → F.Refused r ≡ readOf M.Card bs
+  card-none r h e k = sym (card-refused bs r (rw k at (numbers-refused (letterC ∷ []) bs out x r h e)))
 
   module _ (letter : ℕ) (l : Lettered letter bs × FourLetter letter) (h : NumbersRead (letter ∷ []) bs out x) (k : length out ≡ 4) where
     pub four-all : (n : ℕ) (line : Line) → x ≡ A.All n → line ≡ lineOf (fourKind letter) out → F.Read line n ≡ readOf M.SampleOrEnd bs

@@ -16,6 +16,7 @@ use Rattle.quantity.specs.declared.refusal.Outcome.the-variants.{Accepted, Refu
 use Rattle.quantity.proofs.Rows.{no-refusal, none-applies, none-of-parts}
 use Rattle.meter.specs.Card.{cardRows}
 use Rattle.meter.specs.declared.card.Card.{Card}
+use Rattle.lines.specs.Bytes.{lineFeed, letterC, letterE, letterH, letterS}
 use Rattle.lines.specs.Number.{decimal, isLong}
 use Rattle.lines.specs.Line.{Kind, opening, card, sample, totals, kindOf, firstField, numbersOf, afterCommas, textOf, bytesOf, contentRows, countOf, lineOf}
 use Rattle.lines.specs.Reading.{isSame, sizeOf, fieldsIn, firstIn, numbersIn, shapeRows, dueKind, lineIn, lineRows, readRows, answerOf, readOf, restOf}
@@ -40,8 +41,8 @@ use Rattle.lines.proofs.WriterRows.{next-place, unrefused, refused-plac
 pub line-bytes : (line : Line) (rest : List ℕ) → bytesOf line ++ rest ≡ lineBytes (firstField (kindOf line)) (numbersOf line) rest
 unfolding bytesOf textOf
 line-bytes line rest =
-    append-assoc (firstField (kindOf line)) (afterCommas (map decimal (numbersOf line)) ++ (10 ∷ [])) rest
-    ∙ ap (λ (l : List ℕ). firstField (kindOf line) ++ l) (append-assoc (afterCommas (map decimal (numbersOf line))) (10 ∷ []) rest)
+    append-assoc (firstField (kindOf line)) (afterCommas (map decimal (numbersOf line)) ++ (lineFeed ∷ [])) rest
+    ∙ ap (λ (l : List ℕ). firstField (kindOf line) ++ l) (append-assoc (afterCommas (map decimal (numbersOf line))) (lineFeed ∷ []) rest)
 
 module _ (line : Line) (rest : List ℕ) where
   bytes-numbers : numbersIn (bytesOf line ++ rest) ≡ numbersOf line
@@ -86,8 +87,8 @@ pub reads-line : (line : Line) (rest : List ℕ) → someLong (numbersOf line) �
 unfolding toldOf contentRows kindOf firstField countOf fourKind
 reads-line L.Opening rest h g = reads-opening rest
 reads-line (L.Card c) rest h g = reads-card c rest h g
-reads-line (L.Sample s) rest h g = reads-four 83 (L.Sample s) rest (inl refl) refl refl refl h
-reads-line (L.End t) rest h g = reads-four 69 (L.End t) rest (inr refl) refl refl refl h
+reads-line (L.Sample s) rest h g = reads-four letterS (L.Sample s) rest (inl refl) refl refl refl h
+reads-line (L.End t) rest h g = reads-four letterE (L.End t) rest (inr refl) refl refl refl h
 
 -- the buffer from the place on, after a text was put there
 put-from : (buf : List ℕ) (at : ℕ) (text : List ℕ) → at ≤ length buf → drop at (putAt buf at text) ≡ text ++ drop (at + length text) buf
@@ -210,7 +211,7 @@ read-within may bs line n e =
 
 -- the kind that a first field names
 named : List ℕ → Kind
-named f = cond (eqb (getD f 0 0) 72) opening (cond (eqb (getD f 0 0) 67) card (cond (eqb (getD f 0 0) 83) sample totals))
+named f = cond (eqb (getD f 0 0) letterH) opening (cond (eqb (getD f 0 0) letterC) card (cond (eqb (getD f 0 0) letterS) sample totals))
 
 kind-named : (k : Kind) → named (firstField k) ≡ k
 unfolding named firstField

@@ -12,6 +12,7 @@ use lib.Dec.{eqb}
 use lib.ListN.{length, getD, take, drop, length-take, drop-of-length-le}
 use lib.Seq.{drop-cons, take-suc, take-at, take-all, length-take-le}
 use borrow.Author.Tests.{le-leb, lt-leb, eq-eqb, ne-eqb}
+use Rattle.lines.specs.Bytes.{digitZero}
 use Rattle.lines.specs.Number.{isDigit, areDigits, valueOf, isNumber}
 use Rattle.lines.specs.Parts.{run, numberAt, Digits}
 use Rattle.lines.specs.declared.number.Field.the-variants.{Number, Missing}
@@ -55,17 +56,17 @@ module _ (bs : List ℕ) where
   unfolding numberAt isNumber
   number-long h = simp (lt-leb (length (run bs)) 18 h, and-false)
 
-  number-lead : 1 < length (run bs) → getD bs 0 0 ≡ 48 → numberAt bs ≡ Missing
+  number-lead : 1 < length (run bs) → getD bs 0 0 ≡ digitZero → numberAt bs ≡ Missing
   unfolding numberAt isNumber
   number-lead h e =
-      simp (ne-eqb (length (run bs)) 1 (λ k. omega arith), run-first bs (omega arith), eq-eqb (getD bs 0 0) 48 e, and-false)
+      simp (ne-eqb (length (run bs)) 1 (λ k. omega arith), run-first bs (omega arith), eq-eqb (getD bs 0 0) digitZero e, and-false)
 
-  number-some : 1 ≤ length (run bs) → length (run bs) ≤ 18 → (length (run bs) ≡ 1) ⊎ (getD bs 0 0 ≡ 48 → ⊥) → numberAt bs ≡ Number (valueOf (run bs)) (length (run bs))
+  number-some : 1 ≤ length (run bs) → length (run bs) ≤ 18 → (length (run bs) ≡ 1) ⊎ (getD bs 0 0 ≡ digitZero → ⊥) → numberAt bs ≡ Number (valueOf (run bs)) (length (run bs))
   unfolding numberAt isNumber
   number-some p q o =
-      let c : (eqb (length (run bs)) 1 || not (eqb (getD (run bs) 0 0) 48)) ≡ true =
+      let c : (eqb (length (run bs)) 1 || not (eqb (getD (run bs) 0 0) digitZero)) ≡ true =
       ⊎-elim (λ k. simp (eq-eqb (length (run bs)) 1 k))
-      (λ k. simp (run-first bs p, ne-eqb (getD bs 0 0) 48 k, or-true)) o in
+      (λ k. simp (run-first bs p, ne-eqb (getD bs 0 0) digitZero k, or-true)) o in
       simp (run-digits bs, le-leb 1 (length (run bs)) p, le-leb (length (run bs)) 18 q, c)
 
 -- the same by the digits up to a nineteenth
@@ -82,10 +83,10 @@ module _ (bs : List ℕ) (v n : ℕ) (d : Digits bs v n) where
   pub digits-long : 18 < n → numberAt bs ≡ Missing
   digits-long h = number-long bs (omega (arith, counted))
 
-  pub digits-lead : 1 < n → getD bs 0 0 ≡ 48 → numberAt bs ≡ Missing
+  pub digits-lead : 1 < n → getD bs 0 0 ≡ digitZero → numberAt bs ≡ Missing
   digits-lead h e = number-lead bs (omega (arith, counted)) e
 
-  pub digits-some : (n ≡ 0 → ⊥) → n ≤ 18 → (n ≤ 1) ⊎ (getD bs 0 0 ≡ 48 → ⊥) → Number v n ≡ numberAt bs
+  pub digits-some : (n ≡ 0 → ⊥) → n ≤ 18 → (n ≤ 1) ⊎ (getD bs 0 0 ≡ digitZero → ⊥) → Number v n ≡ numberAt bs
   digits-some h g o =
       let l : n ≡ length (run bs) = omega (arith, counted) in
       let whole : v ≡ valueOf (run bs) = d .says ∙ ap valueOf (take-all 19 (run bs) (omega arith)) in
@@ -117,7 +118,7 @@ module _ (bs : List ℕ) (v n : ℕ) (p : Passed bs v n) where
       few : n < 19 → n ≤ 18
       few h = omega arith
 
-  pub passed-more : n < length bs → isDigit (getD bs n 0) ≡ true → Passed bs (v * 10 + (getD bs n 0 - 48)) (n + 1)
+  pub passed-more : n < length bs → isDigit (getD bs n 0) ≡ true → Passed bs (v * 10 + (getD bs n 0 - digitZero)) (n + 1)
   unfolding run
   passed-more h d =
       let t : take (n + 1) bs ≡ take n bs ++ (getD bs n 0 ∷ []) = rw add-one (take-suc bs n 0 h) in

@@ -12,6 +12,7 @@ use Rattle.quantity.specs.Refusals.{firstOf}
 use Rattle.quantity.specs.declared.refusal.Outcome.the-variants.{Accepted}
 use Rattle.quantity.proofs.Rows.{none-applies, no-refusal}
 use Rattle.quantity.proofs.Conditions.{neither, both}
+use Rattle.lines.specs.Bytes.{lineFeed, comma}
 use Rattle.lines.specs.Number.{decimal, isDigit, areDigits, isNumber, valueOf, isLong}
 use Rattle.lines.specs.Line.{afterCommas, textOf}
 use Rattle.lines.specs.Reading.{isSame, untilEnd, isEnded, sizeOf, fieldsIn, firstIn, othersIn, areNumbers, numbersIn, isMisshapen, shapeRows}
@@ -72,24 +73,24 @@ numbers-short (f ∷ fs) h =
 
 -- a first field that a line can have
 pub record Plain (first : List ℕ) : Type 0 where
-  pub no-comma : lacks 44 first ≡ true
-  pub no-end : lacks 10 first ≡ true
+  pub no-comma : lacks comma first ≡ true
+  pub no-end : lacks lineFeed first ≡ true
 
 -- a line's bytes, and what follows them
 abbrev pub lineBytes : List ℕ → List ℕ → List ℕ → List ℕ
-lineBytes first ns rest = first ++ (afterCommas (map decimal ns) ++ (10 ∷ rest))
+lineBytes first ns rest = first ++ (afterCommas (map decimal ns) ++ (lineFeed ∷ rest))
 
 module _ (first ns rest : List ℕ) (p : Plain first) where
   body : List ℕ
   body = first ++ afterCommas (map decimal ns)
 
-  apart : lineBytes first ns rest ≡ body ++ (10 ∷ rest)
+  apart : lineBytes first ns rest ≡ body ++ (lineFeed ∷ rest)
   unfolding body
-  apart = sym (append-assoc first (afterCommas (map decimal ns)) (10 ∷ rest))
+  apart = sym (append-assoc first (afterCommas (map decimal ns)) (lineFeed ∷ rest))
 
-  body-lacks : lacks 10 body ≡ true
+  body-lacks : lacks lineFeed body ≡ true
   unfolding body isDigit
-  body-lacks = lacks-append 10 first (afterCommas (map decimal ns)) (p .no-end) (lacks-commas 10 (map decimal ns) refl (decimals-lack 10 ns refl))
+  body-lacks = lacks-append lineFeed first (afterCommas (map decimal ns)) (p .no-end) (lacks-commas lineFeed (map decimal ns) refl (decimals-lack lineFeed ns refl))
 
   until-back : untilEnd (lineBytes first ns rest) ≡ body
   until-back = ap untilEnd apart ∙ until-end rest body body-lacks
@@ -99,7 +100,7 @@ module _ (first ns rest : List ℕ) (p : Plain first) where
 
   pub fields-back : fieldsIn (lineBytes first ns rest) ≡ first ∷ map decimal ns
   unfolding fieldsIn body isDigit
-  fields-back = rw until-back (split-joined first (map decimal ns) (p .no-comma) (decimals-lack 44 ns refl))
+  fields-back = rw until-back (split-joined first (map decimal ns) (p .no-comma) (decimals-lack comma ns refl))
 
   pub numbers-back : numbersIn (lineBytes first ns rest) ≡ ns
   numbers-back = rw fields-back (values-decimals ns)
@@ -143,6 +144,6 @@ shape-forth first count bs h =
       counted = length-map (othersIn bs) valueOf ∙ count-is;
       bytes =
           ended-bytes bs ended
-          ∙ ap (λ (l : List ℕ). l ++ (10 ∷ drop (sizeOf bs) bs)) until-is
-          ∙ append-assoc first (afterCommas (map decimal (numbersIn bs))) (10 ∷ drop (sizeOf bs) bs);
+          ∙ ap (λ (l : List ℕ). l ++ (lineFeed ∷ drop (sizeOf bs) bs)) until-is
+          ∙ append-assoc first (afterCommas (map decimal (numbersIn bs))) (lineFeed ∷ drop (sizeOf bs) bs);
     }

@@ -10,6 +10,7 @@ use lib.Dec.{eqb}
 use lib.ListN.{length, getD, drop}
 use borrow.Author.Tests.{eqb-true, not-true}
 use Rattle.quantity.proofs.Conditions.{both}
+use Rattle.lines.specs.Bytes.{lineFeed, comma}
 use Rattle.lines.specs.Line.{afterCommas}
 use Rattle.lines.specs.Reading.{untilEnd, isEnded, sizeOf, withFirst, split}
 use Rattle.lines.proofs.Decimals.{true-both}
@@ -31,7 +32,7 @@ abbrev pub EachLacks : ℕ → List (List ℕ) → Type 0
 EachLacks b [] = Unit {0}
 EachLacks b (f ∷ fs) = (lacks b f ≡ true) × EachLacks b fs
 
-pub lacks-commas : (b : ℕ) (fs : List (List ℕ)) → eqb 44 b ≡ false → EachLacks b fs → lacks b (afterCommas fs) ≡ true
+pub lacks-commas : (b : ℕ) (fs : List (List ℕ)) → eqb comma b ≡ false → EachLacks b fs → lacks b (afterCommas fs) ≡ true
 unfolding lacks afterCommas
 lacks-commas b [] c h = refl
 lacks-commas b (f ∷ fs) c h = simp c (lacks-append b f (afterCommas fs) (h .0) (lacks-commas b fs c (h .1)))
@@ -39,42 +40,42 @@ lacks-commas b (f ∷ fs) c h = simp c (lacks-append b f (afterCommas fs) (h .0)
 -- ---- joined fields are split again
 
 -- bytes without a comma stand in front of the first field
-split-front : (p q g : List ℕ) (gs : List (List ℕ)) → lacks 44 p ≡ true → split q ≡ g ∷ gs → split (p ++ q) ≡ (p ++ g) ∷ gs
+split-front : (p q g : List ℕ) (gs : List (List ℕ)) → lacks comma p ≡ true → split q ≡ g ∷ gs → split (p ++ q) ≡ (p ++ g) ∷ gs
 unfolding lacks split withFirst
 split-front [] q g gs h e = e
 split-front (b ∷ p) q g gs h e =
-    let t = both (not (eqb b 44)) (lacks 44 p) h in
-    simp (not-true (eqb b 44) (t .0), split-front p q g gs (t .1) e)
+    let t = both (not (eqb b comma)) (lacks comma p) h in
+    simp (not-true (eqb b comma) (t .0), split-front p q g gs (t .1) e)
 
-pub split-joined : (f : List ℕ) (fs : List (List ℕ)) → lacks 44 f ≡ true → EachLacks 44 fs → split (f ++ afterCommas fs) ≡ f ∷ fs
+pub split-joined : (f : List ℕ) (fs : List (List ℕ)) → lacks comma f ≡ true → EachLacks comma fs → split (f ++ afterCommas fs) ≡ f ∷ fs
 unfolding split afterCommas
 split-joined f [] h g = split-front f [] [] [] h refl ∙ ap (λ (x : List ℕ). x ∷ []) (append-nil f)
 split-joined f (x ∷ fs) h g =
-    split-front f (44 ∷ (x ++ afterCommas fs)) [] (x ∷ fs) h (ap (λ (l : List (List ℕ)). [] ∷ l) (split-joined x fs (g .0) (g .1)))
+    split-front f (comma ∷ (x ++ afterCommas fs)) [] (x ∷ fs) h (ap (λ (l : List (List ℕ)). [] ∷ l) (split-joined x fs (g .0) (g .1)))
     ∙ ap (λ (y : List ℕ). y ∷ x ∷ fs) (append-nil f)
 
 -- bytes without 0A, and 0A after them
 module _ (rest : List ℕ) where
-  pub until-end : (p : List ℕ) → lacks 10 p ≡ true → untilEnd (p ++ (10 ∷ rest)) ≡ p
+  pub until-end : (p : List ℕ) → lacks lineFeed p ≡ true → untilEnd (p ++ (lineFeed ∷ rest)) ≡ p
   unfolding lacks untilEnd
   until-end [] h = refl
   until-end (b ∷ p) h =
-      let t = both (not (eqb b 10)) (lacks 10 p) h in
-      simp (not-true (eqb b 10) (t .0), until-end p (t .1))
+      let t = both (not (eqb b lineFeed)) (lacks lineFeed p) h in
+      simp (not-true (eqb b lineFeed) (t .0), until-end p (t .1))
 
-  pub is-ended : (p : List ℕ) → isEnded (p ++ (10 ∷ rest)) ≡ true
+  pub is-ended : (p : List ℕ) → isEnded (p ++ (lineFeed ∷ rest)) ≡ true
   unfolding isEnded
   is-ended [] = refl
   is-ended (b ∷ p) = simp (is-ended p, or-true)
 
 -- ---- split bytes are joined again
 
-pub ended-bytes : (bs : List ℕ) → isEnded bs ≡ true → bs ≡ untilEnd bs ++ (10 ∷ drop (sizeOf bs) bs)
+pub ended-bytes : (bs : List ℕ) → isEnded bs ≡ true → bs ≡ untilEnd bs ++ (lineFeed ∷ drop (sizeOf bs) bs)
 unfolding isEnded untilEnd sizeOf
 ended-bytes [] h = absurd (let z : _≡_ {A = ℕ} 0 1 = cc h in omega arith)
 ended-bytes (b ∷ bs) h =
-    elim (eqb b 10) as (λ t. eqb b 10 ≡ t → b ∷ bs ≡ untilEnd (b ∷ bs) ++ (10 ∷ drop (length (untilEnd (b ∷ bs)) + 1) (b ∷ bs))) [
-      | true ↦ λ e. simp e (ap (λ (x : ℕ). x ∷ bs) (eqb-true b 10 e))
+    elim (eqb b lineFeed) as (λ t. eqb b lineFeed ≡ t → b ∷ bs ≡ untilEnd (b ∷ bs) ++ (lineFeed ∷ drop (length (untilEnd (b ∷ bs)) + 1) (b ∷ bs))) [
+      | true ↦ λ e. simp e (ap (λ (x : ℕ). x ∷ bs) (eqb-true b lineFeed e))
       | false ↦ λ e. simp (e, add-one) (ap (λ (l : List ℕ). b ∷ l) (simp add-one at (ended-bytes bs (simp e at h))))
     ] refl
 
@@ -90,7 +91,7 @@ first-parted b (f ∷ fs) = parted _ _
 pub split-parted : (bs : List ℕ) → Parted (split bs)
 unfolding split
 split-parted [] = parted _ _
-split-parted (b ∷ bs) = go (eqb b 44)
+split-parted (b ∷ bs) = go (eqb b comma)
   where
     go : (t : Bool) → Parted (cond t ([] ∷ split bs) (withFirst b (split bs)))
     go true = parted _ _
@@ -104,7 +105,7 @@ joined-first : (b : ℕ) (l : List (List ℕ)) → Parted l → joined (withFirs
 unfolding withFirst
 joined-first b l (parted f fs) = refl
 
-joined-comma : (l : List (List ℕ)) → Parted l → joined ([] ∷ l) ≡ 44 ∷ joined l
+joined-comma : (l : List (List ℕ)) → Parted l → joined ([] ∷ l) ≡ comma ∷ joined l
 unfolding afterCommas
 joined-comma l (parted f fs) = refl
 
@@ -112,8 +113,8 @@ pub joined-split : (bs : List ℕ) → joined (split bs) ≡ bs
 unfolding split afterCommas
 joined-split [] = refl
 joined-split (b ∷ bs) =
-    elim (eqb b 44) as (λ t. eqb b 44 ≡ t → joined (split (b ∷ bs)) ≡ b ∷ bs) [
-      | true ↦ λ e. simp e (joined-comma (split bs) (split-parted bs) ∙ rw (joined-split bs, eqb-true b 44 e))
+    elim (eqb b comma) as (λ t. eqb b comma ≡ t → joined (split (b ∷ bs)) ≡ b ∷ bs) [
+      | true ↦ λ e. simp e (joined-comma (split bs) (split-parted bs) ∙ rw (joined-split bs, eqb-true b comma e))
       | false ↦ λ e. simp e (joined-first b (split bs) (split-parted bs) ∙ rw (joined-split bs))
     ] refl
 

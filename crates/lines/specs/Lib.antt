@@ -1,4 +1,5 @@
 -- What the contracts of this crate, and of those above it, cite.
+pub mod Bytes
 pub mod Number
 pub mod Line
 pub mod Reading

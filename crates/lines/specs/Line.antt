@@ -6,6 +6,7 @@ use Rattle.quantity.specs.Refusals.{Row}
 use Rattle.meter.specs.Card.{fieldsOf, cardRows}
 use Rattle.meter.specs.declared.card.Card.{Card}
 use Rattle.meter.specs.declared.sample.Sample.{Sample}
+use Rattle.lines.specs.Bytes.{lineFeed, comma, letterC, letterE, letterS, archiveWord}
 use Rattle.lines.specs.Number.{decimal}
 use Rattle.lines.specs.declared.line.Line.{Line}
 use Rattle.lines.specs.declared.line.Line.the-variants as L
@@ -25,10 +26,10 @@ kindOf (L.End t) = totals
 
 -- a line's first field: HEATARCHIVE in the opening, and the letter C, S or E in the others
 unfoldable pub firstField : Kind → List ℕ
-firstField opening = 72 ∷ 69 ∷ 65 ∷ 84 ∷ 65 ∷ 82 ∷ 67 ∷ 72 ∷ 73 ∷ 86 ∷ 69 ∷ []
-firstField card = 67 ∷ []
-firstField sample = 83 ∷ []
-firstField totals = 69 ∷ []
+firstField opening = archiveWord
+firstField card = letterC ∷ []
+firstField sample = letterS ∷ []
+firstField totals = letterE ∷ []
 
 -- The numbers after it, in order: 1 in the opening; "one line C with the card's twelve fields, any count of lines S with a sample's
 -- four, one line E with accepted, refused, register, volume".
@@ -41,11 +42,11 @@ numbersOf (L.End t) = t .accepted ∷ t .refused ∷ t .register ∷ t .volume �
 -- "Fields are parted by commas, no quoting": fields, each after a comma
 unfoldable pub afterCommas : List (List ℕ) → List ℕ
 afterCommas [] = []
-afterCommas (f ∷ fs) = 44 ∷ (f ++ afterCommas fs)
+afterCommas (f ∷ fs) = comma ∷ (f ++ afterCommas fs)
 
 -- "Lines end with byte 0A (hexadecimal)": the first field, the numbers, and the end
 unfoldable pub textOf : List ℕ → List ℕ → List ℕ
-textOf first numbers = first ++ (afterCommas (map decimal numbers) ++ (10 ∷ []))
+textOf first numbers = first ++ (afterCommas (map decimal numbers) ++ (lineFeed ∷ []))
 
 -- the bytes of a line
 unfoldable pub bytesOf : Line → List ℕ

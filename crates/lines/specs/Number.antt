@@ -4,11 +4,12 @@ use mathlib.Core.Bool.{Bool, true, not, cond, _&&_, _||_}
 use mathlib.Core.List.{List, [], _∷_, _++_}
 use lib.Dec.{ltb, leb, eqb}
 use lib.ListN.{length, getD}
+use Rattle.lines.specs.Bytes.{digitZero, digitNine}
 
 -- the bytes of n: its digit of each place, the highest place first; at most f digits stand before the last one
 unfoldable pub decimalBy : ℕ → ℕ → List ℕ
-decimalBy zero n = (48 + n % 10) ∷ []
-decimalBy (suc f) n = cond (ltb n 10) ((48 + n) ∷ []) (decimalBy f (n / 10) ++ ((48 + n % 10) ∷ []))
+decimalBy zero n = (digitZero + n % 10) ∷ []
+decimalBy (suc f) n = cond (ltb n 10) ((digitZero + n) ∷ []) (decimalBy f (n / 10) ++ ((digitZero + n % 10) ∷ []))
 
 -- n places are enough for n
 unfoldable pub decimal : ℕ → List ℕ
@@ -16,7 +17,7 @@ decimal n = decimalBy n n
 
 -- a byte 30 to 39 (hexadecimal)
 unfoldable pub isDigit : ℕ → Bool
-isDigit b = leb 48 b && leb b 57
+isDigit b = leb digitZero b && leb b digitNine
 
 unfoldable pub areDigits : List ℕ → Bool
 areDigits [] = true
@@ -25,11 +26,11 @@ areDigits (b ∷ bs) = isDigit b && areDigits bs
 -- what digits say: each digit times the power of ten of its place
 unfoldable pub valueOf : List ℕ → ℕ
 valueOf [] = 0
-valueOf (b ∷ bs) = (b - 48) * 10 ^ length bs + valueOf bs
+valueOf (b ∷ bs) = (b - digitZero) * 10 ^ length bs + valueOf bs
 
 -- "1 to 18 digits and no leading zero except 0 itself"
 unfoldable pub isNumber : List ℕ → Bool
-isNumber bs = areDigits bs && (leb 1 (length bs) && (leb (length bs) 18 && (eqb (length bs) 1 || not (eqb (getD bs 0 0) 48))))
+isNumber bs = areDigits bs && (leb 1 (length bs) && (leb (length bs) 18 && (eqb (length bs) 1 || not (eqb (getD bs 0 0) digitZero))))
 
 -- a value that no text of 18 digits says
 unfoldable pub isLong : ℕ → Bool

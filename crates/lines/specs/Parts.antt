@@ -9,6 +9,7 @@ use lib.Dec.{eqb}
 use lib.ListN.{length, getD, take}
 use Rattle.quantity.specs.Refusals.{firstOf}
 use Rattle.quantity.specs.declared.refusal.Outcome.the-variants as O
+use Rattle.lines.specs.Bytes.{comma, digitZero, letterE, letterS}
 use Rattle.lines.specs.Number.{isDigit, isNumber, valueOf}
 use Rattle.lines.specs.Line.{Kind, sample, totals, numbersOf}
 use Rattle.lines.specs.Reading.{shapeRows, numbersIn, sizeOf}
@@ -35,7 +36,7 @@ oneMore N.Missing = N.Missing
 
 unfoldable pub fieldAt : List ℕ → Field
 fieldAt [] = N.Missing
-fieldAt (b ∷ bs) = cond (eqb b 44) (oneMore (numberAt bs)) N.Missing
+fieldAt (b ∷ bs) = cond (eqb b comma) (oneMore (numberAt bs)) N.Missing
 
 -- the numbers of a line and the bytes that it takes, where no row of its shape refuses it; or the refusal
 pub data NumbersRead (first : List ℕ) (bs out : List ℕ) : Numbers → Type 0 where
@@ -50,7 +51,7 @@ pub record Digits (bs : List ℕ) (value n : ℕ) : Type 0 where
 -- the last k digits of n
 unfoldable pub lastDigits : ℕ → ℕ → List ℕ
 lastDigits zero n = []
-lastDigits (suc k) n = lastDigits k (n / 10) ++ ((48 + n % 10) ∷ [])
+lastDigits (suc k) n = lastDigits k (n / 10) ++ ((digitZero + n % 10) ∷ [])
 
 -- a line's numbers as the code lists them: the first count of twelve
 pub record IsListed (line : Line) (l : Listed) : Type 0 where
@@ -62,11 +63,11 @@ pub record IsListed (line : Line) (l : Listed) : Type 0 where
 pub record Lettered (letter : ℕ) (bs : List ℕ) : Type 0 where
   pub some : 0 < length bs
   pub first : getD bs 0 0 ≡ letter
-  pub apart : 44 < letter
+  pub apart : comma < letter
 
 -- the two letters of lines of four numbers, and the kind that each names
 abbrev pub FourLetter : ℕ → Type 0
-FourLetter letter = (letter ≡ 83) ⊎ (letter ≡ 69)
+FourLetter letter = (letter ≡ letterS) ⊎ (letter ≡ letterE)
 
 unfoldable pub fourKind : ℕ → Kind
-fourKind letter = cond (eqb letter 69) totals sample
+fourKind letter = cond (eqb letter letterE) totals sample

@@ -7,6 +7,7 @@ use lib.ListN.{length, getD, take, drop}
 use Rattle.quantity.specs.Refusals.{Row, row, firstOf}
 use Rattle.quantity.specs.declared.refusal.Outcome.{Outcome}
 use Rattle.quantity.specs.declared.refusal.Outcome.the-variants as O
+use Rattle.lines.specs.Bytes.{lineFeed, comma}
 use Rattle.lines.specs.Number.{isNumber, valueOf}
 use Rattle.lines.specs.Line.{Kind, opening, card, sample, totals, firstField, countOf, lineOf, bytesOf, contentRows}
 use Rattle.lines.specs.declared.line.Line.{Line}
@@ -26,11 +27,11 @@ isSame (x ∷ xs) (y ∷ ys) = eqb x y && isSame xs ys
 -- "Lines end with byte 0A": the bytes before the first 0A, and whether there is one
 unfoldable pub untilEnd : List ℕ → List ℕ
 untilEnd [] = []
-untilEnd (b ∷ bs) = cond (eqb b 10) [] (b ∷ untilEnd bs)
+untilEnd (b ∷ bs) = cond (eqb b lineFeed) [] (b ∷ untilEnd bs)
 
 unfoldable pub isEnded : List ℕ → Bool
 isEnded [] = false
-isEnded (b ∷ bs) = eqb b 10 || isEnded bs
+isEnded (b ∷ bs) = eqb b lineFeed || isEnded bs
 
 -- the bytes that the line takes, its 0A among them
 unfoldable pub sizeOf : List ℕ → ℕ
@@ -43,7 +44,7 @@ withFirst b (f ∷ fs) = (b ∷ f) ∷ fs
 
 unfoldable pub split : List ℕ → List (List ℕ)
 split [] = [] ∷ []
-split (b ∷ bs) = cond (eqb b 44) ([] ∷ split bs) (withFirst b (split bs))
+split (b ∷ bs) = cond (eqb b comma) ([] ∷ split bs) (withFirst b (split bs))
 
 -- the line's first field, and the fields after it
 unfoldable pub fieldsIn : List ℕ → List (List ℕ)

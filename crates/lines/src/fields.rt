@@ -7,6 +7,7 @@ ghost use mathlib.Core.List.{_∷_, []};
 ghost use Prim.Native.Nat.{_≤_};
 ghost use lib.Dec.{eqb};
 ghost use lib.ListN.{length, getD};
+ghost use Rattle.lines.specs.Bytes.{lineFeed};
 ghost use Rattle.lines.specs.Parts.{Lettered, NumbersRead};
 
 // How many bytes the line takes whose numbers were read, or the refusal's number.
@@ -39,7 +40,7 @@ pub(crate) fn read_numbers(bytes: &[u8], letter: u8, out: &mut [u64]) -> Numbers
 
 // Whether the byte at a place ends a line.
 fn is_end(bytes: &[u8], at: usize) -> bool
-    ensures { λ r. ⌜ r ≡ eqb (getD (now (bytes .entry)) at 0) 10 ⌝ }
+    ensures { λ r. ⌜ r ≡ eqb (getD (now (bytes .entry)) at 0) lineFeed ⌝ }
 {
     if at < bytes.len() {
         bytes[at] == b'\n'

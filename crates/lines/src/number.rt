@@ -4,6 +4,7 @@ ghost use mathlib.Core.Logic.{_⊎_};
 ghost use mathlib.Core.List.{_++_, _∷_};
 ghost use Prim.Native.Nat.{_+_, _≤_};
 ghost use lib.ListN.{length, drop};
+ghost use Rattle.lines.specs.Bytes.{comma};
 ghost use Rattle.lines.specs.Number.{isDigit, decimal};
 ghost use Rattle.lines.specs.Parts.{Digits, numberAt, fieldAt, lastDigits};
 
@@ -41,7 +42,7 @@ fn read_number(part: &[u8]) -> Field
         if !is_digit(b) {
             return checked_number(part, value, n);
         }
-        value = value * 10 + (wide(b) - 48);
+        value = value * 10 + wide(b - b'0');
         n += 1;
     }
     checked_number(part, value, n)
@@ -56,10 +57,10 @@ fn at_most_19(n: usize) -> usize
 fn is_digit(b: u8) -> bool
     ensures { λ r. ⌜ r ≡ isDigit b ⌝ }
 {
-    if b < 48 {
+    if b < b'0' {
         return false;
     }
-    b <= 57
+    b <= b'9'
 }
 
 fn wide(x: u8) -> u64
@@ -102,8 +103,8 @@ pub(crate) fn width(x: u64) -> usize
 
 // Puts a comma and x at the front of part, and answers how many bytes that takes.
 pub(crate) fn put_field(part: &mut [u8], x: u64) -> usize
-    requires { ⌜ length (44 ∷ decimal x) ≤ length (now part) ⌝ }
-    ensures { λ r. ⌜ (r ≡ length (44 ∷ decimal x)) × (now (part .exit) ≡ 44 ∷ (decimal x ++ drop r (now (part .entry)))) ⌝ }
+    requires { ⌜ length (comma ∷ decimal x) ≤ length (now part) ⌝ }
+    ensures { λ r. ⌜ (r ≡ length (comma ∷ decimal x)) × (now (part .exit) ≡ comma ∷ (decimal x ++ drop r (now (part .entry)))) ⌝ }
 {
     let n = width(x);
     put_digits(&mut part[1..], n, x);
@@ -120,7 +121,7 @@ fn put_digits(part: &mut [u8], k: usize, x: u64)
     let mut rest = x;
     while 0 < i {
         i -= 1;
-        part[i] = 48 + (rest % 10) as u8;
+        part[i] = b'0' + (rest % 10) as u8;
         rest /= 10;
     }
 }

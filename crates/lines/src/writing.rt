@@ -14,6 +14,7 @@ ghost use Prim.Native.Nat.{_+_, _≤_};
 ghost use lib.Dec.{ltb};
 ghost use lib.ListN.{length};
 ghost use Rattle.quantity.specs.Refusals.{row, firstOf};
+ghost use Rattle.lines.specs.Bytes.{comma};
 ghost use Rattle.lines.specs.Number.{decimal};
 ghost use Rattle.lines.specs.Line.{kindOf, firstField, numbersOf, afterCommas, textOf, bytesOf, contentRows};
 ghost use Rattle.lines.specs.Writing.{someLong, writeRows, writtenOf, putAt, bufferAfter};
@@ -122,8 +123,8 @@ fn put_fields(buf: &mut [u8], at: usize, numbers: &[u64]) -> usize
 
 // Puts a comma and x from the place at on, and answers the next place.
 fn put_at(buf: &mut [u8], at: usize, x: u64) -> usize
-    requires { ⌜ at + length (44 ∷ decimal x) ≤ length (now buf) ⌝ }
-    ensures { λ r. ⌜ (r ≡ at + length (44 ∷ decimal x)) × (now (buf .exit) ≡ putAt (now (buf .entry)) at (44 ∷ decimal x)) ⌝ }
+    requires { ⌜ at + length (comma ∷ decimal x) ≤ length (now buf) ⌝ }
+    ensures { λ r. ⌜ (r ≡ at + length (comma ∷ decimal x)) × (now (buf .exit) ≡ putAt (now (buf .entry)) at (comma ∷ decimal x)) ⌝ }
 {
     at + put_field(&mut buf[at..], x)
 }

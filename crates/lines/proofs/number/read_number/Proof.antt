@@ -58,11 +58,11 @@ mul-value c =
     let t = c .before .before .before .loop-test .taken in
     omega (arith, passed-fits _ (l .value) (l .n) (l .inv .1) (omega arith))
 
+sub-wide : tie.Need-sub-wide Inv-loop μ-loop
+sub-wide c = digit-low _ (digit c)
+
 wide-requires : tie.Need-wide-requires Inv-loop μ-loop
 wide-requires c κs = search needs
-
-sub-value : tie.Need-sub-value Inv-loop μ-loop
-sub-value c = omega (arith, digit-low _ (digit (c .before)), c .wide .ensures)
 
 add-value : tie.Need-add-value Inv-loop μ-loop
 add-value c =
@@ -114,8 +114,8 @@ read-number-spec =
     checked-number-requires
     returns
     mul-value
+    sub-wide
     wide-requires
-    sub-value
     add-value
     add-n
     loop-less

@@ -2,6 +2,7 @@
 -- Assumes nothing.
 use borrow.Author.Needs.{needs}
 use borrow.Author.Tests.{eq-eqb, ne-eqb}
+use Rattle.lines.specs.Bytes.{letterE}
 use Rattle.lines.specs.Line.{lineOf}
 use Rattle.lines.specs.Parts.{fourKind}
 use Rattle.lines.proofs.reading.line_of_four.Statement.{statement}
@@ -33,11 +34,11 @@ array-read-t30 c = search needs
 
 returns : tie.Need-returns
 unfolding lineOf fourKind
-returns c = simp (eq-eqb (c .before .args .letter) 69 (c .if1 .taken))
+returns c = simp (eq-eqb (c .before .args .letter) letterE (c .if1 .taken))
 
 returns-2 : tie.Need-returns-2
 unfolding lineOf fourKind
-returns-2 c = simp (ne-eqb (c .before .args .letter) 69 (c .if1 .left))
+returns-2 c = simp (ne-eqb (c .before .args .letter) letterE (c .if1 .left))
 
 pub line-of-four-spec : {M : Type 1} → statement M
 line-of-four-spec =
