@@ -11,7 +11,7 @@ use lib.ListN.{length, getD, length-append, List·getD-append}
 use borrow.Author.Tests.{ltb-true, ltb-false, leb-true, eqb-false, lt-ltb, le-ltb, le-leb, ne-eqb, not-true}
 use Rattle.quantity.proofs.Conditions.{both}
 use Rattle.lines.specs.Bytes.{digitZero, digitNine}
-use Rattle.lines.specs.Number.{decimalBy, decimal, isDigit, areDigits, valueOf, isNumber}
+use Rattle.lines.specs.Number.{decimalBy, decimal, isDigit, areDigits, valueOf, isNumber, mostDigits}
 
 -- ---- digit by digit
 
@@ -135,17 +135,18 @@ value-below (b ∷ d) h =
 pub decimal-pos : (n : ℕ) → 1 ≤ length (decimal n)
 decimal-pos = decimal-ind (λ n. 1 ≤ length (decimal n)) (λ n h. simp (decimal-one n h) (omega arith)) (λ n h ih. simp (decimal-step n h, length-append) (omega arith))
 
-pub decimal-short : (n k : ℕ) → n < 10 ^ suc k → length (decimal n) ≤ suc k
-decimal-short = decimal-ind (λ n. (k : ℕ) → n < 10 ^ suc k → length (decimal n) ≤ suc k) one step
+pub decimal-short : (n k : ℕ) → 1 ≤ k → n < 10 ^ k → length (decimal n) ≤ k
+decimal-short = decimal-ind (λ n. (k : ℕ) → 1 ≤ k → n < 10 ^ k → length (decimal n) ≤ k) one step
   where
-    one : (n : ℕ) → n < 10 → (k : ℕ) → n < 10 ^ suc k → length (decimal n) ≤ suc k
-    one n h k p = simp (decimal-one n h) (omega arith)
+    one : (n : ℕ) → n < 10 → (k : ℕ) → 1 ≤ k → n < 10 ^ k → length (decimal n) ≤ k
+    one n h k g p = simp (decimal-one n h) g
 
-    step : (n : ℕ) → 10 ≤ n → ((k : ℕ) → n / 10 < 10 ^ suc k → length (decimal (n / 10)) ≤ suc k) → (k : ℕ) → n < 10 ^ suc k → length (decimal n) ≤ suc k
-    step n h ih zero p = let z : n < 10 = p in absurd (omega arith)
-    step n h ih (suc k) p =
+    step : (n : ℕ) → 10 ≤ n → ((k : ℕ) → 1 ≤ k → n / 10 < 10 ^ k → length (decimal (n / 10)) ≤ k) → (k : ℕ) → 1 ≤ k → n < 10 ^ k → length (decimal n) ≤ k
+    step n h ih zero g p = absurd (omega arith)
+    step n h ih (suc zero) g p = let z : n < 10 = p in absurd (omega arith)
+    step n h ih (suc (suc k)) g p =
         let q : n / 10 < 10 ^ suc k = omega (arith, pow-suc 10 (suc k)) in
-        let r : length (decimal (n / 10)) ≤ suc k = ih k q in
+        let r : length (decimal (n / 10)) ≤ suc k = ih (suc k) (omega arith) q in
         simp (decimal-step n h, length-append) (omega arith)
 
 pub length-one : (n : ℕ) → n < 10 → length (decimal n) ≡ 1
@@ -168,12 +169,12 @@ decimal-lead = decimal-ind (λ n. 1 ≤ n → getD (decimal n) 0 0 ≡ digitZero
 
 -- ---- the only text
 
--- LAW: the text of a value below 10^18 is a number's
-pub decimal-number : (n : ℕ) → n < 10 ^ 18 → isNumber (decimal n) ≡ true
+-- LAW: the text of a value of at most 18 digits is a number's
+pub decimal-number : (n : ℕ) → n < 10 ^ mostDigits → isNumber (decimal n) ≡ true
 unfolding isNumber
 decimal-number n h =
-    let p : length (decimal n) ≤ 18 = decimal-short n 17 h in
-    simp (decimal-digits n, le-leb 1 (length (decimal n)) (decimal-pos n), le-leb (length (decimal n)) 18 p)
+    let p : length (decimal n) ≤ mostDigits = decimal-short n mostDigits (omega arith) h in
+    simp (decimal-digits n, le-leb 1 (length (decimal n)) (decimal-pos n), le-leb (length (decimal n)) mostDigits p)
     (elim (ltb n 10) as (λ b. ltb n 10 ≡ b → (eqb (length (decimal n)) 1 || not (eqb (getD (decimal n) 0 0) digitZero)) ≡ true) [
       | true ↦ λ e. simp (decimal-one n (ltb-true n 10 e))
       | false ↦ λ e. simp (ne-eqb (getD (decimal n) 0 0) digitZero (decimal-lead n (omega (arith, ltb-false n 10 e))), or-true)
@@ -217,11 +218,11 @@ number-decimal (b ∷ []) q =
     rw r (simp (decimal-one (b - digitZero) (omega arith), s))
 number-decimal (b ∷ x ∷ d) q =
     let n : ℕ = length (b ∷ x ∷ d) in
-    let t = both (areDigits (b ∷ x ∷ d)) (leb 1 n && (leb n 18 && (eqb n 1 || not (eqb b digitZero)))) q in
+    let t = both (areDigits (b ∷ x ∷ d)) (leb 1 n && (leb n mostDigits && (eqb n 1 || not (eqb b digitZero)))) q in
     let p = both (isDigit b) (areDigits (x ∷ d)) (t .0) in
     let lo : digitZero ≤ b = digit-low b (p .0) in
     let hi : b ≤ digitNine = digit-high b (p .0) in
-    let r : (eqb n 1 || not (eqb b digitZero)) ≡ true = both (leb n 18) _ (both (leb 1 n) _ (t .1) .1) .1 in
+    let r : (eqb n 1 || not (eqb b digitZero)) ≡ true = both (leb n mostDigits) _ (both (leb 1 n) _ (t .1) .1) .1 in
     let s : not (eqb b digitZero) ≡ true = simp (ne-eqb n 1 (λ e. omega arith)) at r in
     let ne : b ≡ digitZero → ⊥ = eqb-false b digitZero (not-true (eqb b digitZero) s) in
     let k : 1 ≤ b - digitZero = omega arith in
@@ -230,10 +231,10 @@ number-decimal (b ∷ x ∷ d) q =
     ∙ decimal-sofar (b - digitZero) (x ∷ d) k (p .1)
     ∙ simp (decimal-one (b - digitZero) (omega arith), z)
 
--- a number's text says less than 10^18
-pub number-small : (d : List ℕ) → isNumber d ≡ true → valueOf d < 10 ^ 18
+-- a number's text says a value of at most 18 digits
+pub number-small : (d : List ℕ) → isNumber d ≡ true → valueOf d < 10 ^ mostDigits
 unfolding isNumber
 number-small d q =
     let t = both (areDigits d) _ q in
-    let few : length d ≤ 18 = leb-true (length d) 18 (both (leb (length d) 18) _ (both (leb 1 (length d)) _ (t .1) .1) .0) in
+    let few : length d ≤ mostDigits = leb-true (length d) mostDigits (both (leb (length d) mostDigits) _ (both (leb 1 (length d)) _ (t .1) .1) .0) in
     lt-of-lt-of-le (value-below d (t .0)) (pow-le-pow-right {n = 10} (omega arith) few)

@@ -11,7 +11,7 @@ use Rattle.quantity.specs.Refusals.{row, firstOf}
 use Rattle.quantity.specs.declared.refusal.Outcome.{Outcome}
 use Rattle.quantity.specs.declared.refusal.Outcome.the-variants.{Accepted, Refused}
 use Rattle.meter.specs.Card.{cardRows}
-use Rattle.lines.specs.Line.{sample, totals, firstField, countOf, cardOf, lineOf, bytesOf, contentRows}
+use Rattle.lines.specs.Line.{sample, totals, firstField, countOf, cardOf, lineOf, bytesOf, contentRows, openingLength}
 use Rattle.lines.specs.Reading.{isSame, sizeOf, firstIn, othersIn, numbersIn, areNumbers, isMisshapen, shapeRows, dueKind, lineIn, lineRows, readRows, answerOf, readOf}
 use Rattle.lines.specs.RoundTrip.{Cause, no-opening, misshapen, no-number, card-row}
 use Rattle.lines.specs.declared.line.Line.{Line}
@@ -76,7 +76,7 @@ module _ (bs : List ℕ) where
       go false = refl
 
   -- a cause for each refusal
-  opening-cause : (t : Bool) → isSame (take 14 bs) (bytesOf L.Opening) ≡ t → (r : ℕ) → firstOf (row 60 (not t) ∷ []) ≡ Refused r → Cause bs M.Opening r
+  opening-cause : (t : Bool) → isSame (take openingLength bs) (bytesOf L.Opening) ≡ t → (r : ℕ) → firstOf (row 60 (not t) ∷ []) ≡ Refused r → Cause bs M.Opening r
   unfolding firstOf
   opening-cause true h r e = absurd (let z : _≡_ {A = ℕ} 0 1 = cc e in omega arith)
   opening-cause false h r e = subst (λ (k : ℕ). Cause bs M.Opening k) (cc e) (no-opening h)
@@ -95,7 +95,7 @@ module _ (bs : List ℕ) where
 
   cause : (may : MayCome) (r : ℕ) → firstOf (readRows may bs) ≡ Refused r → Cause bs may r
   unfolding readRows
-  cause M.Opening r e = opening-cause (isSame (take 14 bs) (bytesOf L.Opening)) refl r e
+  cause M.Opening r e = opening-cause (isSame (take openingLength bs) (bytesOf L.Opening)) refl r e
   cause M.Card r e = card-cause r (which (misshapen-due M.Card) (areNumbers (othersIn bs)) (later M.Card) r (sym card-rows ∙ e))
   cause M.SampleOrEnd r e = four-cause r (which (misshapen-due M.SampleOrEnd) (areNumbers (othersIn bs)) (later M.SampleOrEnd) r (sym four-rows ∙ e))
 

@@ -11,7 +11,7 @@ use lib.ListN.{length, getD, drop, length-append}
 use borrow.Author.Tests.{eq-eqb, ne-eqb, eqb-true}
 use Rattle.quantity.proofs.Conditions.{both}
 use Rattle.lines.specs.Bytes.{comma}
-use Rattle.lines.specs.Number.{decimal, isDigit, areDigits, valueOf, isNumber}
+use Rattle.lines.specs.Number.{decimal, isDigit, areDigits, valueOf, isNumber, mostDigits}
 use Rattle.lines.specs.Parts.{run, numberAt, oneMore, fieldAt}
 use Rattle.lines.specs.declared.number.Field.{Field}
 use Rattle.lines.specs.declared.number.Field.the-variants.{Number, Missing}
@@ -53,7 +53,7 @@ run-front (b ∷ bs) =
       | false ↦ λ e. simp e
     ] refl
 
-number-back : (v : ℕ) (rest : List ℕ) → v < 10 ^ 18 → run rest ≡ [] → numberAt (decimal v ++ rest) ≡ Number v (length (decimal v))
+number-back : (v : ℕ) (rest : List ℕ) → v < 10 ^ mostDigits → run rest ≡ [] → numberAt (decimal v ++ rest) ≡ Number v (length (decimal v))
 unfolding numberAt
 number-back v rest h e =
     let r : run (decimal v ++ rest) ≡ decimal v =
@@ -62,7 +62,7 @@ number-back v rest h e =
 
 -- what `numberAt` answers
 pub record IsNumber (bs : List ℕ) (v n : ℕ) : Type 0 where
-  pub small : v < 10 ^ 18
+  pub small : v < 10 ^ mostDigits
   pub counted : n ≡ length (decimal v)
   pub front : bs ≡ decimal v ++ drop n bs
 
@@ -88,13 +88,13 @@ number-forth bs v n h =
 -- ---- a field
 
 -- LAW: what is written is read back
-pub field-back : (v : ℕ) (rest : List ℕ) → v < 10 ^ 18 → run rest ≡ [] → fieldAt (comma ∷ (decimal v ++ rest)) ≡ Number v (length (decimal v) + 1)
+pub field-back : (v : ℕ) (rest : List ℕ) → v < 10 ^ mostDigits → run rest ≡ [] → fieldAt (comma ∷ (decimal v ++ rest)) ≡ Number v (length (decimal v) + 1)
 unfolding oneMore
 field-back v rest h e = field-comma (comma ∷ (decimal v ++ rest)) refl ∙ rw (number-back v rest h e)
 
 -- LAW: what is read is what is written
 pub record IsField (bs : List ℕ) (v n : ℕ) : Type 0 where
-  pub small : v < 10 ^ 18
+  pub small : v < 10 ^ mostDigits
   pub counted : n ≡ length (decimal v) + 1
   pub front : bs ≡ comma ∷ (decimal v ++ drop n bs)
 

@@ -43,9 +43,9 @@ kind-line totals ns = refl
 pub numbers-line : (k : Kind) (ns : List ℕ) → (k ≡ opening → ns ≡ 1 ∷ []) → length ns ≡ countOf k → numbersOf (lineOf k ns) ≡ ns
 unfolding numbersOf lineOf countOf cardOf fieldsOf
 numbers-line opening ns h e = sym (h refl)
-numbers-line card ns h e = all-elements ns 12 e
-numbers-line sample ns h e = all-elements ns 4 e
-numbers-line totals ns h e = all-elements ns 4 e
+numbers-line card ns h e = all-elements ns (countOf card) e
+numbers-line sample ns h e = all-elements ns (countOf sample) e
+numbers-line totals ns h e = all-elements ns (countOf totals) e
 
 pub plain : (k : Kind) → Plain (firstField k)
 unfolding firstField lacks

@@ -3,17 +3,17 @@
 use mathlib.Core.Path.{_≡_, refl, sym, ap, _∙_, subst}
 use mathlib.Core.Bool.{true, false}
 use mathlib.Core.List.{List, [], _∷_, _++_, append-assoc, append-nil, map}
-use Prim.Native.Nat.{ℕ, suc, _+_, _*_, _^_, _≤_, _<_}
+use Prim.Native.Nat.{ℕ, suc, _+_, _^_, _≤_, _<_}
 use native.Mathlib.Omega.{arith}
 use native.Mathlib.Numerals.{add-one}
 use lib.ListN.{length, getD, take, drop, set, length-append, length-set, drop-of-length-le}
-use lib.Seq.{drop-cons, length-take-le}
+use lib.Seq.{drop-cons, take-suc, take-suc-set, length-take-le}
 use borrow.Author.Tests.{le-leb, lt-leb}
 use Rattle.lines.specs.Bytes.{lineFeed, comma}
-use Rattle.lines.specs.Number.{decimal, isLong}
-use Rattle.lines.specs.Line.{kindOf, firstField, numbersOf, afterCommas, textOf, bytesOf}
+use Rattle.lines.specs.Number.{decimal, isLong, mostDigits}
+use Rattle.lines.specs.Line.{kindOf, firstField, numbersOf, afterCommas, textOf, bytesOf, mostNumbers}
 use Rattle.lines.specs.Writing.{someLong, putAt}
-use Rattle.lines.specs.Parts.{IsListed}
+use Rattle.lines.specs.Parts.{mostWidth, mostBytes, Lists}
 use Rattle.lines.specs.declared.line.Line.{Line}
 use Rattle.lines.specs.declared.listed.Listed.{Listed}
 use Rattle.lines.proofs.Decimals.{decimal-short}
@@ -22,13 +22,13 @@ use Rattle.lines.proofs.Puts.{Wrote, wrote-none, wrote-one, wrote-lengt
 -- ---- a number that is too long
 
 module _ (ns : List ℕ) (i : ℕ) where
-  pub long-here : i < length ns → 10 ^ 18 ≤ getD ns i 0 → someLong (drop i ns) ≡ true
+  pub long-here : i < length ns → 10 ^ mostDigits ≤ getD ns i 0 → someLong (drop i ns) ≡ true
   unfolding someLong isLong
-  long-here h g = rw (drop-cons ns i 0) (simp (le-leb (10 ^ 18) (getD ns i 0) g))
+  long-here h g = rw (drop-cons ns i 0) (simp (le-leb (10 ^ mostDigits) (getD ns i 0) g))
 
-  pub long-later : i < length ns → getD ns i 0 < 10 ^ 18 → someLong (drop i ns) ≡ someLong (drop (i + 1) ns)
+  pub long-later : i < length ns → getD ns i 0 < 10 ^ mostDigits → someLong (drop i ns) ≡ someLong (drop (i + 1) ns)
   unfolding someLong isLong
-  long-later h g = rw (add-one, drop-cons ns i 0) (simp (lt-leb (10 ^ 18) (getD ns i 0) g))
+  long-later h g = rw (add-one, drop-cons ns i 0) (simp (lt-leb (10 ^ mostDigits) (getD ns i 0) g))
 
   pub long-none : length ns ≤ i → someLong (drop i ns) ≡ false
   unfolding someLong
@@ -48,24 +48,24 @@ text-none : (ns : List ℕ) (i : ℕ) → length ns ≤ i → textFrom ns i ≡ 
 unfolding afterCommas
 text-none ns i h = rw (drop-of-length-le ns h)
 
--- sum bytes for the first i numbers, of at most twenty digits each
+-- sum bytes for the first i numbers
 pub record Counted (ns : List ℕ) (sum i : ℕ) : Type 0 where
   pub few : i ≤ length ns
-  pub small : sum ≤ 21 * i
+  pub small : sum ≤ mostBytes i
   pub left : sum + length (textFrom ns i) ≡ length (textFrom ns 0)
 
 pub counted-none : (ns : List ℕ) → Counted ns 0 0
 counted-none ns = record { few = omega arith; small = omega arith; left = omega arith }
 
-pub width-small : (x : ℕ) → x < 2 ^ 64 → length (decimal x) ≤ 20
-width-small x h = decimal-short x 19 (omega arith)
+pub width-small : (x : ℕ) → x < 2 ^ 64 → length (decimal x) ≤ mostWidth
+width-small x h = decimal-short x mostWidth (omega arith) (omega arith)
 
 module _ (ns : List ℕ) (sum i : ℕ) (c : Counted ns sum i) where
   pub counted-more : i < length ns → getD ns i 0 < 2 ^ 64 → Counted ns (sum + (length (decimal (getD ns i 0)) + 1)) (i + 1)
   counted-more h g =
       let few : i ≤ length ns = c .few in
-      let small : sum ≤ 21 * i = c .small in
-      let w : length (decimal (getD ns i 0)) ≤ 20 = width-small (getD ns i 0) g in
+      let small : sum ≤ mostBytes i = c .small in
+      let w : length (decimal (getD ns i 0)) ≤ mostWidth = width-small (getD ns i 0) g in
       let l : length (textFrom ns i) ≡ suc (length (decimal (getD ns i 0))) + length (textFrom ns (i + 1)) =
       ap length (text-one ns i h) ∙ length-append (comma ∷ decimal (getD ns i 0)) (textFrom ns (i + 1)) in
       record { few = omega arith; small = omega arith; left = omega (arith, c .left) }
@@ -135,11 +135,16 @@ module _ (xs : List ℕ) (at letter : ℕ) (ns : List ℕ) (room : at + length (
 
 -- ---- a line's numbers as they are listed
 
-module _ (line : Line) (l : Listed) (is : IsListed line l) where
+-- one number more
+pub list-more : (ns all : List ℕ) (i : ℕ) → i < length ns → i < length all → take i all ≡ take i ns → take (i + 1) (set all i (getD ns i 0)) ≡ take (i + 1) ns
+list-more ns all i h k e =
+    rw add-one (take-suc-set all i (getD ns i 0) k ∙ ap (λ (l : List ℕ). l ++ (getD ns i 0 ∷ [])) e ∙ sym (take-suc ns i 0 h))
+
+module _ (line : Line) (l : Listed) (is : Lists (numbersOf line) l) where
   pub listed-length : l .count ≡ length (take (l .count) (l .numbers))
   listed-length = sym (length-take-le (l .count) (l .numbers) (omega (arith, is .few, is .long)))
 
-  pub listed-few : length (take (l .count) (l .numbers)) ≤ 12
+  pub listed-few : length (take (l .count) (l .numbers)) ≤ mostNumbers
   listed-few = omega (arith, is .few, listed-length)
 
   pub listed-text : (letter : ℕ) → firstField (kindOf line) ≡ letter ∷ [] → textOf (letter ∷ []) (take (l .count) (l .numbers)) ≡ bytesOf line

@@ -6,7 +6,7 @@ use Prim.Native.Nat.{_+_}
 use lib.ListN.{length}
 use Rattle.lines.specs.Bytes.{lineFeed, comma, digitZero, archiveWord}
 use Rattle.lines.specs.Number.{decimal, decimalBy}
-use Rattle.lines.specs.Line.{kindOf, firstField, numbersOf, afterCommas, textOf, bytesOf}
+use Rattle.lines.specs.Line.{kindOf, firstField, numbersOf, afterCommas, textOf, bytesOf, openingLength}
 use Rattle.lines.specs.declared.line.Line.the-variants as L
 
 -- "The first 14 bytes are HEATARCHIVE,1 and a line feed."
@@ -14,5 +14,5 @@ pub opening-bytes : bytesOf L.Opening ≡ archiveWord ++ (comma ∷ (digitZero +
 unfolding decimal decimalBy kindOf firstField numbersOf afterCommas textOf bytesOf
 opening-bytes = refl
 
-pub opening-length : length (bytesOf L.Opening) ≡ 14
+pub opening-length : length (bytesOf L.Opening) ≡ openingLength
 opening-length = ap length opening-bytes

@@ -17,7 +17,7 @@ use Rattle.meter.specs.Card.{fieldsOf, cardRows}
 use Rattle.meter.specs.declared.card.Card.{Card}
 use Rattle.lines.specs.Bytes.{lineFeed, comma, letterC, letterE, letterS}
 use Rattle.lines.specs.Number.{decimal, decimalBy}
-use Rattle.lines.specs.Line.{Kind, opening, sample, totals, kindOf, firstField, numbersOf, afterCommas, textOf, bytesOf, contentRows, countOf, cardOf, lineOf}
+use Rattle.lines.specs.Line.{Kind, opening, sample, totals, kindOf, firstField, numbersOf, afterCommas, textOf, bytesOf, contentRows, openingLength, mostNumbers, countOf, cardOf, lineOf}
 use Rattle.lines.specs.Reading.{isSame, untilEnd, sizeOf, split, fieldsIn, firstIn, numbersIn, shapeRows, dueKind, lineIn, lineRows, readRows, answerOf, readOf}
 use Rattle.lines.specs.Parts.{Lettered, NumbersRead, all, refused, FourLetter, fourKind}
 use Rattle.lines.specs.declared.fields.Numbers.{Numbers}
@@ -36,23 +36,23 @@ use Rattle.lines.proofs.Faults.{misshapen-first, first-of}
 -- ---- the opening
 
 -- bytes that begin with the opening's
-pub opening-front : (bs : List ℕ) → isSame (take 14 bs) (bytesOf L.Opening) ≡ true → bs ≡ lineBytes (firstField opening) (1 ∷ []) (drop 14 bs)
+pub opening-front : (bs : List ℕ) → isSame (take openingLength bs) (bytesOf L.Opening) ≡ true → bs ≡ lineBytes (firstField opening) (1 ∷ []) (drop openingLength bs)
 unfolding bytesOf textOf kindOf numbersOf firstField afterCommas decimal decimalBy
 opening-front bs h =
-    sym (take-append-drop 14 bs) ∙ ap (λ (l : List ℕ). l ++ drop 14 bs) (same-true (take 14 bs) (bytesOf L.Opening) h)
+    sym (take-append-drop openingLength bs) ∙ ap (λ (l : List ℕ). l ++ drop openingLength bs) (same-true (take openingLength bs) (bytesOf L.Opening) h)
 
-opening-size : length (textOf (firstField opening) (1 ∷ [])) ≡ 14
+opening-size : length (textOf (firstField opening) (1 ∷ [])) ≡ openingLength
 unfolding bytesOf kindOf numbersOf
 opening-size = opening-length
 
-pub opening-sized : (bs : List ℕ) → isSame (take 14 bs) (bytesOf L.Opening) ≡ true → sizeOf bs ≡ 14
-opening-sized bs h = ap sizeOf (opening-front bs h) ∙ size-back (firstField opening) (1 ∷ []) (drop 14 bs) (plain opening) ∙ opening-size
+pub opening-sized : (bs : List ℕ) → isSame (take openingLength bs) (bytesOf L.Opening) ≡ true → sizeOf bs ≡ openingLength
+opening-sized bs h = ap sizeOf (opening-front bs h) ∙ size-back (firstField opening) (1 ∷ []) (drop openingLength bs) (plain opening) ∙ opening-size
 
-pub opening-read : (bs : List ℕ) → isSame (take 14 bs) (bytesOf L.Opening) ≡ true → readOf M.Opening bs ≡ F.Read L.Opening 14
+pub opening-read : (bs : List ℕ) → isSame (take openingLength bs) (bytesOf L.Opening) ≡ true → readOf M.Opening bs ≡ F.Read L.Opening openingLength
 unfolding readOf readRows firstOf lineIn dueKind lineOf answerOf
 opening-read bs h = simp (h, opening-sized bs h)
 
-pub opening-refused : (bs : List ℕ) → isSame (take 14 bs) (bytesOf L.Opening) ≡ false → readOf M.Opening bs ≡ F.Refused 60
+pub opening-refused : (bs : List ℕ) → isSame (take openingLength bs) (bytesOf L.Opening) ≡ false → readOf M.Opening bs ≡ F.Refused 60
 unfolding readOf readRows firstOf answerOf
 opening-refused bs h = simp h
 
@@ -84,20 +84,20 @@ shape-other first count bs h = simp (misshapen-first first count bs h)
 -- ---- the card's line
 
 module _ (bs : List ℕ) where
-  card-rows : firstOf (readRows M.Card bs) ≡ orElse (firstOf (shapeRows (letterC ∷ []) 12 bs)) (firstOf (cardRows (cardOf (numbersIn bs))))
+  card-rows : firstOf (readRows M.Card bs) ≡ orElse (firstOf (shapeRows (letterC ∷ []) mostNumbers bs)) (firstOf (cardRows (cardOf (numbersIn bs))))
   unfolding readRows lineRows firstField countOf contentRows lineOf dueKind
-  card-rows = parts (shapeRows (letterC ∷ []) 12 bs) (cardRows (cardOf (numbersIn bs)))
+  card-rows = parts (shapeRows (letterC ∷ []) mostNumbers bs) (cardRows (cardOf (numbersIn bs)))
 
-  pub card-refused : (r : ℕ) → firstOf (shapeRows (letterC ∷ []) 12 bs) ≡ Refused r → readOf M.Card bs ≡ F.Refused r
+  pub card-refused : (r : ℕ) → firstOf (shapeRows (letterC ∷ []) mostNumbers bs) ≡ Refused r → readOf M.Card bs ≡ F.Refused r
   unfolding readOf answerOf
   card-refused r e =
       let rows : firstOf (readRows M.Card bs) ≡ Refused r = card-rows ∙ rw e in
       rw rows
 
   pub card-other : (getD bs 0 0 ≡ letterC → ⊥) → readOf M.Card bs ≡ F.Refused 61
-  card-other h = card-refused 61 (shape-other (letterC ∷ []) 12 bs (other-letter letterC bs h))
+  card-other h = card-refused 61 (shape-other (letterC ∷ []) mostNumbers bs (other-letter letterC bs h))
 
-  pub card-read : (c : Card) → firstOf (shapeRows (letterC ∷ []) 12 bs) ≡ Accepted → fieldsOf c ≡ numbersIn bs
+  pub card-read : (c : Card) → firstOf (shapeRows (letterC ∷ []) mostNumbers bs) ≡ Accepted → fieldsOf c ≡ numbersIn bs
       → readOf M.Card bs ≡ answerOf (L.Card c) (sizeOf bs) (firstOf (cardRows c))
   unfolding readOf lineIn lineOf dueKind
   card-read c e f =
@@ -129,31 +129,31 @@ module _ (bs : List ℕ) where
   unfolding dueKind firstField
   other-end h = rw (other-letter letterE bs h)
 
-  sample-read : getD bs 0 0 ≡ letterS → (o : Outcome) → firstOf (shapeRows (letterS ∷ []) 4 bs) ≡ o
+  sample-read : getD bs 0 0 ≡ letterS → (o : Outcome) → firstOf (shapeRows (letterS ∷ []) (countOf sample) bs) ≡ o
       → readOf M.SampleOrEnd bs ≡ answerOf (lineOf sample (numbersIn bs)) (sizeOf bs) o
   unfolding firstField countOf
   sample-read h o e = by-kind sample (other-end (λ g. omega arith)) sample-content ∙ rw e
 
   pub neither-read : (getD bs 0 0 ≡ letterS → ⊥) → (getD bs 0 0 ≡ letterE → ⊥) → readOf M.SampleOrEnd bs ≡ F.Refused 61
   unfolding firstField countOf answerOf
-  neither-read h g = by-kind sample (other-end g) sample-content ∙ rw (shape-other (letterS ∷ []) 4 bs (other-letter letterS bs h))
+  neither-read h g = by-kind sample (other-end g) sample-content ∙ rw (shape-other (letterS ∷ []) (countOf sample) bs (other-letter letterS bs h))
 
-  end-read : getD bs 0 0 ≡ letterE → (o : Outcome) → firstOf (shapeRows (letterE ∷ []) 4 bs) ≡ o
+  end-read : getD bs 0 0 ≡ letterE → (o : Outcome) → firstOf (shapeRows (letterE ∷ []) (countOf totals) bs) ≡ o
       → readOf M.SampleOrEnd bs ≡ answerOf (lineOf totals (numbersIn bs)) (sizeOf bs) o
   unfolding firstField countOf answerOf dueKind
   end-read h o e =
       elim (isSame (firstIn bs) (letterE ∷ [])) as (λ t. isSame (firstIn bs) (letterE ∷ []) ≡ t → readOf M.SampleOrEnd bs ≡ answerOf (lineOf totals (numbersIn bs)) (sizeOf bs) o) [
         | true ↦ λ t. by-kind totals (rw t) totals-content ∙ rw e
         | false ↦ λ t.
-            let s : readOf M.SampleOrEnd bs ≡ F.Refused 61 = by-kind sample (rw t) sample-content ∙ rw (shape-other (letterS ∷ []) 4 bs (other-letter letterS bs (λ g. omega arith))) in
-            let r : o ≡ Refused 61 = sym e ∙ shape-other (letterE ∷ []) 4 bs t in
+            let s : readOf M.SampleOrEnd bs ≡ F.Refused 61 = by-kind sample (rw t) sample-content ∙ rw (shape-other (letterS ∷ []) (countOf sample) bs (other-letter letterS bs (λ g. omega arith))) in
+            let r : o ≡ Refused 61 = sym e ∙ shape-other (letterE ∷ []) (countOf totals) bs t in
             s ∙ rw r
       ] refl
 
   -- by either letter
-  pub four-read : (letter : ℕ) → FourLetter letter → getD bs 0 0 ≡ letter → (o : Outcome) → firstOf (shapeRows (letter ∷ []) 4 bs) ≡ o
+  pub four-read : (letter : ℕ) → FourLetter letter → getD bs 0 0 ≡ letter → (o : Outcome) → firstOf (shapeRows (letter ∷ []) (countOf sample) bs) ≡ o
       → readOf M.SampleOrEnd bs ≡ answerOf (lineOf (fourKind letter) (numbersIn bs)) (sizeOf bs) o
-  unfolding fourKind
+  unfolding fourKind countOf
   four-read letter (inl k) h o e = rw k (sample-read (h ∙ k) o (rw k at e))
   four-read letter (inr k) h o e = rw k (end-read (h ∙ k) o (rw k at e))
 
@@ -170,16 +170,16 @@ numbers-refused first bs out x r (all e f) g = absurd (let z : _≡_ {A = ℕ} 0
 numbers-refused first bs out x r (refused s e) g = let k : s ≡ r = cc g in rw k at e
 
 module _ (bs out : List ℕ) (x : Numbers) where
-  pub card-all : (n : ℕ) (c : Card) → NumbersRead (letterC ∷ []) bs out x → x ≡ A.All n → length out ≡ 12 → fieldsOf c ≡ out
+  pub card-all : (n : ℕ) (c : Card) → NumbersRead (letterC ∷ []) bs out x → x ≡ A.All n → length out ≡ mostNumbers → fieldsOf c ≡ out
       → answerOf (L.Card c) n (firstOf (cardRows c)) ≡ readOf M.Card bs
   card-all n c h e k f =
       let a = numbers-all (letterC ∷ []) bs out x n h e in
       rw (a .1 .1) (sym (card-read bs c (rw k at (a .0)) (f ∙ a .1 .0)))
 
-  pub card-none : (r : ℕ) → NumbersRead (letterC ∷ []) bs out x → x ≡ A.Refused r → length out ≡ 12 → F.Refused r ≡ readOf M.Card bs
+  pub card-none : (r : ℕ) → NumbersRead (letterC ∷ []) bs out x → x ≡ A.Refused r → length out ≡ mostNumbers → F.Refused r ≡ readOf M.Card bs
   card-none r h e k = sym (card-refused bs r (rw k at (numbers-refused (letterC ∷ []) bs out x r h e)))
 
-  module _ (letter : ℕ) (l : Lettered letter bs × FourLetter letter) (h : NumbersRead (letter ∷ []) bs out x) (k : length out ≡ 4) where
+  module _ (letter : ℕ) (l : Lettered letter bs × FourLetter letter) (h : NumbersRead (letter ∷ []) bs out x) (k : length out ≡ countOf sample) where
     pub four-all : (n : ℕ) (line : Line) → x ≡ A.All n → line ≡ lineOf (fourKind letter) out → F.Read line n ≡ readOf M.SampleOrEnd bs
     unfolding answerOf
     four-all n line e f =

@@ -18,7 +18,7 @@ use Rattle.meter.specs.Card.{cardRows}
 use Rattle.meter.specs.declared.card.Card.{Card}
 use Rattle.lines.specs.Bytes.{lineFeed, letterC, letterE, letterH, letterS}
 use Rattle.lines.specs.Number.{decimal, isLong}
-use Rattle.lines.specs.Line.{Kind, opening, card, sample, totals, kindOf, firstField, numbersOf, afterCommas, textOf, bytesOf, contentRows, countOf, lineOf}
+use Rattle.lines.specs.Line.{Kind, opening, card, sample, totals, kindOf, firstField, numbersOf, afterCommas, textOf, bytesOf, contentRows, countOf, lineOf, openingLength}
 use Rattle.lines.specs.Reading.{isSame, sizeOf, fieldsIn, firstIn, numbersIn, shapeRows, dueKind, lineIn, lineRows, readRows, answerOf, readOf, restOf}
 use Rattle.lines.specs.Writing.{someLong, writeRows, placeOf, writtenOf, putAt, bufferAfter}
 use Rattle.lines.specs.Parts.{FourLetter, fourKind}
@@ -60,7 +60,7 @@ module _ (line : Line) (rest : List ℕ) where
 
 reads-opening : (rest : List ℕ) → readOf M.Opening (bytesOf L.Opening ++ rest) ≡ F.Read L.Opening (length (bytesOf L.Opening))
 reads-opening rest =
-    opening-read (bytesOf L.Opening ++ rest) (same-eq (take 14 (bytesOf L.Opening ++ rest)) (bytesOf L.Opening) (take-at (bytesOf L.Opening) rest 14 opening-length))
+    opening-read (bytesOf L.Opening ++ rest) (same-eq (take openingLength (bytesOf L.Opening ++ rest)) (bytesOf L.Opening) (take-at (bytesOf L.Opening) rest openingLength opening-length))
     ∙ rw opening-length
 
 reads-card : (c : Card) (rest : List ℕ) → someLong (numbersOf (L.Card c)) ≡ false → NoneApplies (cardRows c)
@@ -71,13 +71,13 @@ reads-card c rest h g =
     ∙ rw (bytes-size (L.Card c) rest, no-refusal (cardRows c) g)
 
 -- a line of four numbers, by its letter
-reads-four : (letter : ℕ) (line : Line) (rest : List ℕ) → FourLetter letter → firstField (kindOf line) ≡ letter ∷ [] → countOf (kindOf line) ≡ 4 → fourKind letter ≡ kindOf line
+reads-four : (letter : ℕ) (line : Line) (rest : List ℕ) → FourLetter letter → firstField (kindOf line) ≡ letter ∷ [] → countOf (kindOf line) ≡ countOf sample → fourKind letter ≡ kindOf line
     → someLong (numbersOf line) ≡ false → readOf M.SampleOrEnd (bytesOf line ++ rest) ≡ F.Read line (length (bytesOf line))
 unfolding answerOf
 reads-four letter line rest f e k d h =
     let bs : List ℕ = bytesOf line ++ rest in
     let first : getD bs 0 0 ≡ letter = ap (λ (l : List ℕ). getD l 0 0) (line-bytes line rest ∙ ap (λ (l : List ℕ). lineBytes l (numbersOf line) rest) e) in
-    let shape : firstOf (shapeRows (letter ∷ []) 4 bs) ≡ Accepted = rw (e, k) at (bytes-shape line rest h) in
+    let shape : firstOf (shapeRows (letter ∷ []) (countOf sample) bs) ≡ Accepted = rw (e, k) at (bytes-shape line rest h) in
     four-read bs letter f first Accepted shape
     ∙ rw (d, bytes-numbers line rest, bytes-size line rest, line-of line)
 
@@ -164,7 +164,7 @@ module _ (may : MayCome) (bs : List ℕ) (k : Kind) (ns : List ℕ) where
 writes-opening : (bs : List ℕ) → firstOf (readRows M.Opening bs) ≡ Accepted → WritesBack M.Opening bs L.Opening (sizeOf bs)
 unfolding readRows lineOf numbersOf toldOf contentRows someLong isLong
 writes-opening bs e =
-    let h : isSame (take 14 bs) (bytesOf L.Opening) ≡ true = not-false _ (none-applies (readRows M.Opening bs) e .0) in
+    let h : isSame (take openingLength bs) (bytesOf L.Opening) ≡ true = not-false _ (none-applies (readRows M.Opening bs) e .0) in
     writes-kind M.Opening bs opening (1 ∷ []) refl refl (rw (opening-sized bs h) (opening-front bs h)) refl tt
 
 -- a line of a kind that is due

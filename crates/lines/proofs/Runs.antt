@@ -13,8 +13,8 @@ use lib.ListN.{length, getD, take, drop, length-take, drop-of-length-le}
 use lib.Seq.{drop-cons, take-suc, take-at, take-all, length-take-le}
 use borrow.Author.Tests.{le-leb, lt-leb, eq-eqb, ne-eqb}
 use Rattle.lines.specs.Bytes.{digitZero}
-use Rattle.lines.specs.Number.{isDigit, areDigits, valueOf, isNumber}
-use Rattle.lines.specs.Parts.{run, numberAt, Digits}
+use Rattle.lines.specs.Number.{isDigit, areDigits, valueOf, mostDigits, isNumber}
+use Rattle.lines.specs.Parts.{run, numberAt, lookedAt, Digits}
 use Rattle.lines.specs.declared.number.Field.the-variants.{Number, Missing}
 use Rattle.lines.proofs.Decimals.{digits-snoc, value-snoc, value-below}
 
@@ -52,27 +52,27 @@ module _ (bs : List ℕ) where
   unfolding numberAt isNumber
   number-none h = simp (lt-leb 1 (length (run bs)) (omega arith), and-false)
 
-  number-long : 18 < length (run bs) → numberAt bs ≡ Missing
+  number-long : mostDigits < length (run bs) → numberAt bs ≡ Missing
   unfolding numberAt isNumber
-  number-long h = simp (lt-leb (length (run bs)) 18 h, and-false)
+  number-long h = simp (lt-leb (length (run bs)) mostDigits h, and-false)
 
   number-lead : 1 < length (run bs) → getD bs 0 0 ≡ digitZero → numberAt bs ≡ Missing
   unfolding numberAt isNumber
   number-lead h e =
       simp (ne-eqb (length (run bs)) 1 (λ k. omega arith), run-first bs (omega arith), eq-eqb (getD bs 0 0) digitZero e, and-false)
 
-  number-some : 1 ≤ length (run bs) → length (run bs) ≤ 18 → (length (run bs) ≡ 1) ⊎ (getD bs 0 0 ≡ digitZero → ⊥) → numberAt bs ≡ Number (valueOf (run bs)) (length (run bs))
+  number-some : 1 ≤ length (run bs) → length (run bs) ≤ mostDigits → (length (run bs) ≡ 1) ⊎ (getD bs 0 0 ≡ digitZero → ⊥) → numberAt bs ≡ Number (valueOf (run bs)) (length (run bs))
   unfolding numberAt isNumber
   number-some p q o =
       let c : (eqb (length (run bs)) 1 || not (eqb (getD (run bs) 0 0) digitZero)) ≡ true =
       ⊎-elim (λ k. simp (eq-eqb (length (run bs)) 1 k))
       (λ k. simp (run-first bs p, ne-eqb (getD bs 0 0) digitZero k, or-true)) o in
-      simp (run-digits bs, le-leb 1 (length (run bs)) p, le-leb (length (run bs)) 18 q, c)
+      simp (run-digits bs, le-leb 1 (length (run bs)) p, le-leb (length (run bs)) mostDigits q, c)
 
--- the same by the digits up to a nineteenth
+-- the same by the digits that are looked at
 module _ (bs : List ℕ) (v n : ℕ) (d : Digits bs v n) where
-  counted : n ≡ min 19 (length (run bs))
-  counted = d .counted ∙ length-take 19 (run bs)
+  counted : n ≡ min lookedAt (length (run bs))
+  counted = d .counted ∙ length-take lookedAt (run bs)
 
   pub digits-within : n ≤ length bs
   digits-within = omega (arith, counted, run-within bs)
@@ -80,16 +80,16 @@ module _ (bs : List ℕ) (v n : ℕ) (d : Digits bs v n) where
   pub digits-none : n ≡ 0 → numberAt bs ≡ Missing
   digits-none h = number-none bs (omega (arith, counted))
 
-  pub digits-long : 18 < n → numberAt bs ≡ Missing
+  pub digits-long : mostDigits < n → numberAt bs ≡ Missing
   digits-long h = number-long bs (omega (arith, counted))
 
   pub digits-lead : 1 < n → getD bs 0 0 ≡ digitZero → numberAt bs ≡ Missing
   digits-lead h e = number-lead bs (omega (arith, counted)) e
 
-  pub digits-some : (n ≡ 0 → ⊥) → n ≤ 18 → (n ≤ 1) ⊎ (getD bs 0 0 ≡ digitZero → ⊥) → Number v n ≡ numberAt bs
+  pub digits-some : (n ≡ 0 → ⊥) → n ≤ mostDigits → (n ≤ 1) ⊎ (getD bs 0 0 ≡ digitZero → ⊥) → Number v n ≡ numberAt bs
   digits-some h g o =
       let l : n ≡ length (run bs) = omega (arith, counted) in
-      let whole : v ≡ valueOf (run bs) = d .says ∙ ap valueOf (take-all 19 (run bs) (omega arith)) in
+      let whole : v ≡ valueOf (run bs) = d .says ∙ ap valueOf (take-all lookedAt (run bs) (omega arith)) in
       rw (l, whole) (sym (number-some bs (omega arith) (omega arith) (⊎-elim (λ k. inl (omega arith)) (λ k. inr k) o)))
 
 -- ---- a turn of the loop
@@ -112,10 +112,10 @@ module _ (bs : List ℕ) (v n : ℕ) (p : Passed bs v n) where
       let l : length (take n bs) ≡ n = length-take-le n bs (p .within) in
       rw (p .says) (rw l at (value-below (take n bs) (p .digits)))
 
-  pub passed-fits : n < 19 → v < 10 ^ 18
-  passed-fits h = lt-of-lt-of-le passed-small (pow-le-pow-right {n = 10} (omega arith) {j = 18} (few h))
+  pub passed-fits : n < lookedAt → v < 10 ^ mostDigits
+  passed-fits h = lt-of-lt-of-le passed-small (pow-le-pow-right {n = 10} (omega arith) {j = mostDigits} (few h))
     where
-      few : n < 19 → n ≤ 18
+      few : n < lookedAt → n ≤ mostDigits
       few h = omega arith
 
   pub passed-more : n < length bs → isDigit (getD bs n 0) ≡ true → Passed bs (v * 10 + (getD bs n 0 - digitZero)) (n + 1)
@@ -130,20 +130,20 @@ module _ (bs : List ℕ) (v n : ℕ) (p : Passed bs v n) where
         goes-on = p .goes-on ∙ rw (r, t) (sym (append-assoc (take n bs) (getD bs n 0 ∷ []) (run (drop (n + 1) bs))));
       }
 
-  -- the digits end, or there is a nineteenth
-  pub passed-end : n ≤ 19 → (n ≡ 19) ⊎ (run (drop n bs) ≡ []) → Digits bs v n
+  -- the digits end, or so many are looked at
+  pub passed-end : n ≤ lookedAt → (n ≡ lookedAt) ⊎ (run (drop n bs) ≡ []) → Digits bs v n
   passed-end h o =
       let l : length (take n bs) ≡ n = length-take-le n bs (p .within) in
-      let e : take 19 (run bs) ≡ take n bs = ⊎-elim (nineteen l) (whole h l) o in
+      let e : take lookedAt (run bs) ≡ take n bs = ⊎-elim (enough l) (whole h l) o in
       record { counted = rw e (sym l); says = rw e (p .says) }
     where
-      nineteen : length (take n bs) ≡ n → n ≡ 19 → take 19 (run bs) ≡ take n bs
-      nineteen l k = ap (take 19) (p .goes-on) ∙ take-at (take n bs) (run (drop n bs)) 19 (l ∙ k)
+      enough : length (take n bs) ≡ n → n ≡ lookedAt → take lookedAt (run bs) ≡ take n bs
+      enough l k = ap (take lookedAt) (p .goes-on) ∙ take-at (take n bs) (run (drop n bs)) lookedAt (l ∙ k)
 
-      whole : n ≤ 19 → length (take n bs) ≡ n → run (drop n bs) ≡ [] → take 19 (run bs) ≡ take n bs
+      whole : n ≤ lookedAt → length (take n bs) ≡ n → run (drop n bs) ≡ [] → take lookedAt (run bs) ≡ take n bs
       whole h l k =
-          ap (take 19) (p .goes-on ∙ ap (λ (r : List ℕ). take n bs ++ r) k ∙ append-nil (take n bs))
-          ∙ take-all 19 (take n bs) (omega arith)
+          ap (take lookedAt) (p .goes-on ∙ ap (λ (r : List ℕ). take n bs ++ r) k ∙ append-nil (take n bs))
+          ∙ take-all lookedAt (take n bs) (omega arith)
 
   pub ends-at : n < length bs → isDigit (getD bs n 0) ≡ false → run (drop n bs) ≡ []
   unfolding run

@@ -13,7 +13,7 @@ use Rattle.quantity.specs.declared.refusal.Outcome.the-variants.{Accepted}
 use Rattle.quantity.proofs.Rows.{none-applies, no-refusal}
 use Rattle.quantity.proofs.Conditions.{neither, both}
 use Rattle.lines.specs.Bytes.{lineFeed, comma}
-use Rattle.lines.specs.Number.{decimal, isDigit, areDigits, isNumber, valueOf, isLong}
+use Rattle.lines.specs.Number.{decimal, isDigit, areDigits, isNumber, valueOf, isLong, mostDigits}
 use Rattle.lines.specs.Line.{afterCommas, textOf}
 use Rattle.lines.specs.Reading.{isSame, untilEnd, isEnded, sizeOf, fieldsIn, firstIn, othersIn, areNumbers, numbersIn, isMisshapen, shapeRows}
 use Rattle.lines.specs.Writing.{someLong}
@@ -40,13 +40,13 @@ values-decimals : (ns : List ℕ) → map valueOf (map decimal ns) ≡ ns
 values-decimals [] = refl
 values-decimals (n ∷ ns) = rw (value-decimal n, values-decimals ns)
 
-pub short : (n : ℕ) → isLong n ≡ false → n < 10 ^ 18
+pub short : (n : ℕ) → isLong n ≡ false → n < 10 ^ mostDigits
 unfolding isLong
-short n h = leb-false (10 ^ 18) n h
+short n h = leb-false (10 ^ mostDigits) n h
 
-pub not-long : (n : ℕ) → n < 10 ^ 18 → isLong n ≡ false
+pub not-long : (n : ℕ) → n < 10 ^ mostDigits → isLong n ≡ false
 unfolding isLong
-not-long n h = lt-leb (10 ^ 18) n h
+not-long n h = lt-leb (10 ^ mostDigits) n h
 
 decimals-numbers : (ns : List ℕ) → someLong ns ≡ false → areNumbers (map decimal ns) ≡ true
 unfolding someLong areNumbers

@@ -59,10 +59,18 @@ contentRows (L.Card c) = cardRows c
 contentRows (L.Sample s) = []
 contentRows (L.End t) = []
 
+-- "The first 14 bytes are HEATARCHIVE,1 and a line feed."
+abbrev pub openingLength : ℕ
+openingLength = 14
+
+-- "the card's twelve fields": no line has more numbers
+abbrev pub mostNumbers : ℕ
+mostNumbers = 12
+
 -- how many numbers a line of a kind has
 unfoldable pub countOf : Kind → ℕ
 countOf opening = 1
-countOf card = 12
+countOf card = mostNumbers
 countOf sample = 4
 countOf totals = 4
 

@@ -28,10 +28,14 @@ unfoldable pub valueOf : List ℕ → ℕ
 valueOf [] = 0
 valueOf (b ∷ bs) = (b - digitZero) * 10 ^ length bs + valueOf bs
 
+-- "1 to 18 digits"
+abbrev pub mostDigits : ℕ
+mostDigits = 18
+
 -- "1 to 18 digits and no leading zero except 0 itself"
 unfoldable pub isNumber : List ℕ → Bool
-isNumber bs = areDigits bs && (leb 1 (length bs) && (leb (length bs) 18 && (eqb (length bs) 1 || not (eqb (getD bs 0 0) digitZero))))
+isNumber bs = areDigits bs && (leb 1 (length bs) && (leb (length bs) mostDigits && (eqb (length bs) 1 || not (eqb (getD bs 0 0) digitZero))))
 
--- a value that no text of 18 digits says
+-- "value of over 18 digits"
 unfoldable pub isLong : ℕ → Bool
-isLong n = leb (10 ^ 18) n
+isLong n = leb (10 ^ mostDigits) n

@@ -1,7 +1,7 @@
 -- What the functions inside reader and writer answer. None of it is part of what reading and writing mean: the public contracts cite
 -- specs/Reading.antt and specs/Writing.antt alone.
 use mathlib.Core.Path.{_≡_}
-use Prim.Native.Nat.{ℕ, zero, suc, _+_, _/_, _%_, _≤_, _<_}
+use Prim.Native.Nat.{ℕ, zero, suc, _+_, _*_, _/_, _%_, _≤_, _<_}
 use mathlib.Core.Bool.{cond}
 use mathlib.Core.List.{List, [], _∷_, _++_}
 use mathlib.Core.Logic.{_⊎_}
@@ -10,10 +10,9 @@ use lib.ListN.{length, getD, take}
 use Rattle.quantity.specs.Refusals.{firstOf}
 use Rattle.quantity.specs.declared.refusal.Outcome.the-variants as O
 use Rattle.lines.specs.Bytes.{comma, digitZero, letterE, letterS}
-use Rattle.lines.specs.Number.{isDigit, isNumber, valueOf}
-use Rattle.lines.specs.Line.{Kind, sample, totals, numbersOf}
+use Rattle.lines.specs.Number.{isDigit, mostDigits, isNumber, valueOf}
+use Rattle.lines.specs.Line.{Kind, sample, totals, mostNumbers}
 use Rattle.lines.specs.Reading.{shapeRows, numbersIn, sizeOf}
-use Rattle.lines.specs.declared.line.Line.{Line}
 use Rattle.lines.specs.declared.listed.Listed.{Listed}
 use Rattle.lines.specs.declared.number.Field.{Field}
 use Rattle.lines.specs.declared.number.Field.the-variants as N
@@ -43,21 +42,33 @@ pub data NumbersRead (first : List ℕ) (bs out : List ℕ) : Numbers → Type 0
   all : firstOf (shapeRows first (length out) bs) ≡ O.Accepted → out ≡ numbersIn bs → NumbersRead first bs out (A.All (sizeOf bs))
   refused : (r : ℕ) → firstOf (shapeRows first (length out) bs) ≡ O.Refused r → NumbersRead first bs out (A.Refused r)
 
--- the digits at the front of a text, as far as a nineteenth: n of them, which say value
+-- how many digits are looked at: one more than a number has
+abbrev pub lookedAt : ℕ
+lookedAt = mostDigits + 1
+
+-- the digits at the front of a text that are looked at: n of them, which say value
 pub record Digits (bs : List ℕ) (value n : ℕ) : Type 0 where
-  pub counted : n ≡ length (take 19 (run bs))
-  pub says : value ≡ valueOf (take 19 (run bs))
+  pub counted : n ≡ length (take lookedAt (run bs))
+  pub says : value ≡ valueOf (take lookedAt (run bs))
 
 -- the last k digits of n
 unfoldable pub lastDigits : ℕ → ℕ → List ℕ
 lastDigits zero n = []
 lastDigits (suc k) n = lastDigits k (n / 10) ++ ((digitZero + n % 10) ∷ [])
 
--- a line's numbers as the code lists them: the first count of twelve
-pub record IsListed (line : Line) (l : Listed) : Type 0 where
-  pub few : l .count ≤ 12
-  pub long : length (l .numbers) ≡ 12
-  pub are : take (l .count) (l .numbers) ≡ numbersOf line
+-- the most digits of a number of 64 bits
+abbrev pub mostWidth : ℕ
+mostWidth = 20
+
+-- the most bytes of so many of them, each after a comma
+abbrev pub mostBytes : ℕ → ℕ
+mostBytes count = (1 + mostWidth) * count
+
+-- numbers as the code lists them: the first count of as many as a line can have
+pub record Lists (ns : List ℕ) (l : Listed) : Type 0 where
+  pub few : l .count ≤ mostNumbers
+  pub long : length (l .numbers) ≡ mostNumbers
+  pub are : take (l .count) (l .numbers) ≡ ns
 
 -- bytes that begin with a letter, which parts neither fields nor lines
 pub record Lettered (letter : ℕ) (bs : List ℕ) : Type 0 where

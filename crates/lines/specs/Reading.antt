@@ -9,7 +9,7 @@ use Rattle.quantity.specs.declared.refusal.Outcome.{Outcome}
 use Rattle.quantity.specs.declared.refusal.Outcome.the-variants as O
 use Rattle.lines.specs.Bytes.{lineFeed, comma}
 use Rattle.lines.specs.Number.{isNumber, valueOf}
-use Rattle.lines.specs.Line.{Kind, opening, card, sample, totals, firstField, countOf, lineOf, bytesOf, contentRows}
+use Rattle.lines.specs.Line.{Kind, opening, card, sample, totals, firstField, openingLength, countOf, lineOf, bytesOf, contentRows}
 use Rattle.lines.specs.declared.line.Line.{Line}
 use Rattle.lines.specs.declared.line.Line.the-variants as L
 use Rattle.lines.specs.declared.line.MayCome.{MayCome}
@@ -87,7 +87,7 @@ lineRows k bs = shapeRows (firstField k) (countOf k) bs ++ contentRows (lineOf k
 
 -- "60 opening" is anything but the opening's bytes
 unfoldable pub readRows : MayCome → List ℕ → List Row
-readRows M.Opening bs = row 60 (not (isSame (take 14 bs) (bytesOf L.Opening))) ∷ []
+readRows M.Opening bs = row 60 (not (isSame (take openingLength bs) (bytesOf L.Opening))) ∷ []
 readRows M.Card bs = lineRows (dueKind M.Card bs) bs
 readRows M.SampleOrEnd bs = lineRows (dueKind M.SampleOrEnd bs) bs
 

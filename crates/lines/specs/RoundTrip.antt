@@ -9,7 +9,7 @@ use lib.ListN.{length, take, drop}
 use Rattle.quantity.specs.Refusals.{firstOf, NoneApplies}
 use Rattle.quantity.specs.declared.refusal.Outcome.the-variants as O
 use Rattle.meter.specs.Card.{cardRows}
-use Rattle.lines.specs.Line.{firstField, countOf, cardOf, numbersOf, bytesOf, contentRows}
+use Rattle.lines.specs.Line.{firstField, openingLength, countOf, cardOf, numbersOf, bytesOf, contentRows}
 use Rattle.lines.specs.Reading.{isSame, othersIn, numbersIn, areNumbers, isMisshapen, dueKind, readOf, restOf}
 use Rattle.lines.specs.Writing.{someLong, writtenOf}
 use Rattle.lines.specs.declared.line.Line.{Line}
@@ -44,7 +44,7 @@ pub record WritesBack (may : MayCome) (bs : List ℕ) (line : Line) (n : ℕ) : 
 
 -- What a refusal of the reader says: its own condition holds, and none before it.
 pub data Cause (bs : List ℕ) : MayCome → ℕ → Type 0 where
-  no-opening : isSame (take 14 bs) (bytesOf L.Opening) ≡ false → Cause bs M.Opening 60
+  no-opening : isSame (take openingLength bs) (bytesOf L.Opening) ≡ false → Cause bs M.Opening 60
   misshapen : {may : MayCome} → (may ≡ M.Opening → ⊥) → isMisshapen (firstField (dueKind may bs)) (countOf (dueKind may bs)) bs ≡ true → Cause bs may 61
   no-number : {may : MayCome} → (may ≡ M.Opening → ⊥) → isMisshapen (firstField (dueKind may bs)) (countOf (dueKind may bs)) bs ≡ false
       → areNumbers (othersIn bs) ≡ false → Cause bs may 62

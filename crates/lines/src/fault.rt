@@ -4,12 +4,13 @@ ghost use mathlib.Core.Bool.{not, cond};
 ghost use mathlib.Core.List.{_∷_, []};
 ghost use Prim.Native.Nat.{_≤_};
 ghost use lib.ListN.{length};
+ghost use Rattle.lines.specs.Line.{mostNumbers};
 ghost use Rattle.lines.specs.Reading.{isSame, isEnded, fieldsIn, firstIn, isMisshapen};
 ghost use Rattle.lines.specs.Parts.{Lettered};
 
 // 61 for a line that has not its shape, and otherwise 62.
 pub(crate) fn fault_number(bytes: &[u8], letter: u8, count: usize) -> u64
-    requires { ⌜ Lettered letter (now bytes) × (count ≤ 12) ⌝ }
+    requires { ⌜ Lettered letter (now bytes) × (count ≤ mostNumbers) ⌝ }
     ensures { λ r. ⌜ r ≡ cond (isMisshapen (letter ∷ []) count (now (bytes .entry))) 61 62 ⌝ }
 {
     if is_misshapen(bytes, letter, count) {
@@ -21,7 +22,7 @@ pub(crate) fn fault_number(bytes: &[u8], letter: u8, count: usize) -> u64
 
 // Whether the line is unended, its first field is not the letter alone, or it has not count numbers.
 fn is_misshapen(bytes: &[u8], letter: u8, count: usize) -> bool
-    requires { ⌜ Lettered letter (now bytes) × (count ≤ 12) ⌝ }
+    requires { ⌜ Lettered letter (now bytes) × (count ≤ mostNumbers) ⌝ }
     ensures { λ r. ⌜ r ≡ isMisshapen (letter ∷ []) count (now (bytes .entry)) ⌝ }
 {
     if goes_on(bytes, letter) {

@@ -8,6 +8,7 @@ ghost use Prim.Native.Nat.{_≤_};
 ghost use lib.Dec.{eqb};
 ghost use lib.ListN.{length, getD};
 ghost use Rattle.lines.specs.Bytes.{lineFeed};
+ghost use Rattle.lines.specs.Line.{mostNumbers};
 ghost use Rattle.lines.specs.Parts.{Lettered, NumbersRead};
 
 // How many bytes the line takes whose numbers were read, or the refusal's number.
@@ -18,7 +19,7 @@ pub(crate) enum Numbers {
 
 // Reads the numbers of a line that begins with the letter into out, as many as it holds.
 pub(crate) fn read_numbers(bytes: &[u8], letter: u8, out: &mut [u64]) -> Numbers
-    requires { ⌜ Lettered letter (now bytes) × (length (now out) ≤ 12) ⌝ }
+    requires { ⌜ Lettered letter (now bytes) × (length (now out) ≤ mostNumbers) ⌝ }
     ensures { λ r. ⌜ NumbersRead (letter ∷ []) (now (bytes .entry)) (now (out .exit)) r ⌝ }
 {
     let mut at: usize = 1;

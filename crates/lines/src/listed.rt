@@ -1,32 +1,32 @@
 // A line's numbers as a list, and how many bytes they take.
 use crate::line::Line;
+use crate::number::LEAST_LONG;
 use crate::number::width;
 ghost use mathlib.Core.Path.{_≡_};
-ghost use mathlib.Core.List.{[], _∷_, map};
+ghost use mathlib.Core.List.{map};
 ghost use Prim.Native.Nat.{_≤_};
 ghost use lib.ListN.{length};
 ghost use Rattle.lines.specs.Number.{decimal};
-ghost use Rattle.lines.specs.Line.{kindOf, firstField, afterCommas};
+ghost use Rattle.lines.specs.Line.{kindOf, firstField, numbersOf, afterCommas, openingLength, mostNumbers};
 ghost use Rattle.lines.specs.Writing.{someLong};
-ghost use Rattle.lines.specs.Parts.{IsListed};
+ghost use Rattle.lines.specs.Parts.{Lists, mostBytes};
+
+// The card's line has the most numbers.
+pub(crate) const MOST_NUMBERS: usize = 12;
 
 // A line's numbers: the first count of these.
 pub(crate) struct Listed {
     pub count: usize,
-    pub numbers: [u64; 12],
+    pub numbers: [u64; MOST_NUMBERS],
 }
 
 pub(crate) fn numbers_of(line: Line) -> Listed
-    ensures { λ r. ⌜ IsListed line r ⌝ }
+    ensures { λ r. ⌜ Lists (numbersOf line) r ⌝ }
 {
     match line {
-        Line::Opening => Listed {
-            count: 1,
-            numbers: [1, 0, 0, 0, 0, 0, 0, 0, 0, 0, 0, 0],
-        },
-        Line::Card(c) => Listed {
-            count: 12,
-            numbers: [
+        Line::Opening => list(&[1]),
+        Line::Card(c) => list(
+            &[
                 c.serial,
                 c.place,
                 c.sensor,
@@ -40,18 +40,26 @@ pub(crate) fn numbers_of(line: Line) -> Listed
                 c.qs,
                 c.ps,
             ],
-        },
-        Line::Sample(s) => list_four(s.pulses, s.seconds, s.supply_reading, s.return_reading),
-        Line::End(t) => list_four(t.accepted, t.refused, t.register, t.volume),
+        ),
+        Line::Sample(s) => list(&[s.pulses, s.seconds, s.supply_reading, s.return_reading]),
+        Line::End(t) => list(&[t.accepted, t.refused, t.register, t.volume]),
     }
 }
 
-fn list_four(a: u64, b: u64, c: u64, d: u64) -> Listed
-    ensures { λ r. ⌜ r ≡ record { count = 4; numbers = a ∷ b ∷ c ∷ d ∷ 0 ∷ 0 ∷ 0 ∷ 0 ∷ 0 ∷ 0 ∷ 0 ∷ 0 ∷ [] } ⌝ }
+// The numbers, with zeros after them.
+fn list(numbers: &[u64]) -> Listed
+    requires { ⌜ length (now numbers) ≤ mostNumbers ⌝ }
+    ensures { λ r. ⌜ Lists (now (numbers .entry)) r ⌝ }
 {
+    let mut all = [0u64; MOST_NUMBERS];
+    let mut i: usize = 0;
+    while i < numbers.len() {
+        all[i] = numbers[i];
+        i += 1;
+    }
     Listed {
-        count: 4,
-        numbers: [a, b, c, d, 0, 0, 0, 0, 0, 0, 0, 0],
+        count: numbers.len(),
+        numbers: all,
     }
 }
 
@@ -61,7 +69,7 @@ pub(crate) fn has_long(numbers: &[u64]) -> bool
 {
     let mut i: usize = 0;
     while i < numbers.len() {
-        if 1000000000000000000 <= numbers[i] {
+        if LEAST_LONG <= numbers[i] {
             return true;
         }
         i += 1;
@@ -71,8 +79,8 @@ pub(crate) fn has_long(numbers: &[u64]) -> bool
 
 // How many bytes the numbers take, each with the comma before it.
 pub(crate) fn fields_length(numbers: &[u64]) -> usize
-    requires { ⌜ length (now numbers) ≤ 12 ⌝ }
-    ensures { λ r. ⌜ (r ≡ length (afterCommas (map decimal (now (numbers .entry))))) × (r ≤ 252) ⌝ }
+    requires { ⌜ length (now numbers) ≤ mostNumbers ⌝ }
+    ensures { λ r. ⌜ (r ≡ length (afterCommas (map decimal (now (numbers .entry))))) × (r ≤ mostBytes mostNumbers) ⌝ }
 {
     let mut sum: usize = 0;
     let mut i: usize = 0;
@@ -85,7 +93,7 @@ pub(crate) fn fields_length(numbers: &[u64]) -> usize
 
 // How many bytes the line's first field takes.
 pub(crate) fn first_length(line: Line) -> usize
-    ensures { λ r. ⌜ (r ≡ length (firstField (kindOf line))) × (r ≤ 11) ⌝ }
+    ensures { λ r. ⌜ (r ≡ length (firstField (kindOf line))) × (r ≤ openingLength) ⌝ }
 {
     match line {
         Line::Opening => 11,

@@ -1,12 +1,18 @@
 // One number of a line: its digits, read and written.
 ghost use mathlib.Core.Path.{_≡_};
-ghost use mathlib.Core.Logic.{_⊎_};
 ghost use mathlib.Core.List.{_++_, _∷_};
-ghost use Prim.Native.Nat.{_+_, _≤_};
+ghost use Prim.Native.Nat.{_+_, _≤_, min};
 ghost use lib.ListN.{length, drop};
 ghost use Rattle.lines.specs.Bytes.{comma};
 ghost use Rattle.lines.specs.Number.{isDigit, decimal};
 ghost use Rattle.lines.specs.Parts.{Digits, numberAt, fieldAt, lastDigits};
+
+const MOST_DIGITS: usize = 18;
+
+const LOOKED_AT: usize = MOST_DIGITS + 1;
+
+// The smallest number of more digits: ten to the power of MOST_DIGITS.
+pub(crate) const LEAST_LONG: u64 = 1000000000000000000;
 
 // A number and how many bytes it takes, or none.
 pub(crate) enum Field {
@@ -30,11 +36,11 @@ pub(crate) fn read_field(part: &[u8]) -> Field
     Field::Number(value, n + 1)
 }
 
-// The number at the front of part. A nineteenth digit is looked at, and no further one.
+// The number at the front of part. One digit more than a number has is looked at, and no further one.
 fn read_number(part: &[u8]) -> Field
     ensures { λ r. ⌜ r ≡ numberAt (now (part .entry)) ⌝ }
 {
-    let most = at_most_19(part.len());
+    let most = smaller(part.len(), LOOKED_AT);
     let mut value: u64 = 0;
     let mut n: usize = 0;
     while n < most {
@@ -48,10 +54,10 @@ fn read_number(part: &[u8]) -> Field
     checked_number(part, value, n)
 }
 
-fn at_most_19(n: usize) -> usize
-    ensures { λ r. ⌜ (r ≤ n) × ((r ≤ 19) × ((r ≡ n) ⊎ (r ≡ 19))) ⌝ }
+fn smaller(a: usize, b: usize) -> usize
+    ensures { λ r. ⌜ r ≡ min a b ⌝ }
 {
-    if n < 19 { n } else { 19 }
+    if a < b { a } else { b }
 }
 
 fn is_digit(b: u8) -> bool
@@ -77,7 +83,7 @@ fn checked_number(part: &[u8], value: u64, n: usize) -> Field
     if n == 0 {
         return Field::Missing;
     }
-    if 18 < n {
+    if MOST_DIGITS < n {
         return Field::Missing;
     }
     if 1 < n {

@@ -4,22 +4,24 @@ ghost use mathlib.Core.List.{_++_};
 ghost use Prim.Native.Nat.{_≤_};
 ghost use lib.ListN.{length, take, drop};
 ghost use Rattle.lines.specs.Reading.{isSame};
-ghost use Rattle.lines.specs.Line.{bytesOf};
+ghost use Rattle.lines.specs.Line.{bytesOf, openingLength};
 ghost use Rattle.lines.specs.declared.line.Line.the-variants as L;
 
-const OPENING: [u8; 14] = *b"HEATARCHIVE,1\n";
+pub(crate) const OPENING_LENGTH: usize = 14;
+
+const OPENING: [u8; OPENING_LENGTH] = *b"HEATARCHIVE,1\n";
 
 // Whether bytes begins with the opening.
 pub(crate) fn is_opening(bytes: &[u8]) -> bool
-    ensures { λ r. ⌜ r ≡ isSame (take 14 (now (bytes .entry))) (bytesOf L.Opening) ⌝ }
+    ensures { λ r. ⌜ r ≡ isSame (take openingLength (now (bytes .entry))) (bytesOf L.Opening) ⌝ }
 {
     begins_with(bytes, &OPENING)
 }
 
 // Puts the opening at the front of part.
 pub(crate) fn put_opening(part: &mut [u8])
-    requires { ⌜ 14 ≤ length (now part) ⌝ }
-    ensures { λ _. ⌜ now (part .exit) ≡ bytesOf L.Opening ++ drop 14 (now (part .entry)) ⌝ }
+    requires { ⌜ openingLength ≤ length (now part) ⌝ }
+    ensures { λ _. ⌜ now (part .exit) ≡ bytesOf L.Opening ++ drop openingLength (now (part .entry)) ⌝ }
 {
     put_bytes(part, &OPENING);
 }

@@ -5,6 +5,8 @@ use crate::line::Front;
 use crate::line::Line;
 use crate::line::MayCome;
 use crate::line::Totals;
+use crate::listed::MOST_NUMBERS;
+use crate::opening::OPENING_LENGTH;
 use crate::opening::is_opening;
 use meter::Card;
 use meter::Sample;
@@ -34,7 +36,7 @@ fn front_opening(bytes: &[u8]) -> Front
     ensures { λ r. ⌜ r ≡ readOf M.Opening (now (bytes .entry)) ⌝ }
 {
     if is_opening(bytes) {
-        Front::Read(Line::Opening, 14)
+        Front::Read(Line::Opening, OPENING_LENGTH)
     } else {
         Front::Refused(60)
     }
@@ -46,7 +48,7 @@ fn front_card(bytes: &[u8]) -> Front
     if first_byte(bytes) != b'C' {
         return Front::Refused(61);
     }
-    let mut f = [0u64; 12];
+    let mut f = [0u64; MOST_NUMBERS];
     let numbers = read_numbers(bytes, b'C', &mut f);
     match numbers {
         Numbers::All(n) => accepted_card(Card::from_fields(f), n),

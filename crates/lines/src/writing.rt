@@ -6,6 +6,7 @@ use crate::listed::first_length;
 use crate::listed::has_long;
 use crate::listed::numbers_of;
 use crate::number::put_field;
+use crate::opening::OPENING_LENGTH;
 use crate::opening::put_opening;
 use quantity::Outcome;
 ghost use mathlib.Core.Path.{_≡_};
@@ -77,7 +78,7 @@ fn put_line(buf: &mut [u8], at: usize, line: Line) -> usize
     match line {
         Line::Opening => {
             put_opening(&mut buf[at..]);
-            at + 14
+            at + OPENING_LENGTH
         }
         Line::Card(_) => put_listed(buf, at, b'C', line),
         Line::Sample(_) => put_listed(buf, at, b'S', line),

@@ -1,5 +1,5 @@
 -- `lines::number::read_number` meets its contract. The loop's invariant, `Passed`: the first n bytes are digits, which say value. The measure
--- is what is left of the nineteen bytes at most.
+-- is what is left of the bytes that are looked at.
 -- Assumes nothing.
 use mathlib.Core.Path.{_≡_, sym, _∙_}
 use mathlib.Core.Logic.{_⊎_, inl, inr, ⊎-elim}
@@ -7,12 +7,13 @@ use mathlib.Core.Bool.{true}
 use mathlib.Core.List.{[]}
 use Prim.Native.Nat.{_-_, _≤_}
 use native.Mathlib.Omega.{arith}
-use lib.ListN.{length, getD, drop}
+use native.Mathlib.Nat.{eq-or-lt-of-le}
+use lib.ListN.{getD, drop}
 use denote.Ref.{now}
 use borrow.Author.Needs.{needs}
 use borrow.Author.Tests.{not-true, not-false}
 use Rattle.lines.specs.Number.{isDigit}
-use Rattle.lines.specs.Parts.{run}
+use Rattle.lines.specs.Parts.{run, lookedAt}
 use Rattle.lines.proofs.Decimals.{digit-low, digit-high}
 use Rattle.lines.proofs.Runs.{Passed, passed-none, passed-fits, passed-more, passed-end, ends-at, ends-with}
 use Rattle.lines.proofs.number.read_number.Statement.{statement}
@@ -24,14 +25,14 @@ Inv-loop part most value₀ n₀ value n = (n ≤ most) × Passed part value n
 abbrev μ-loop : tie.MeasureT-loop
 μ-loop part most value₀ n₀ value n = most - n
 
-at-most-19-requires : tie.Need-at-most-19-requires Inv-loop μ-loop
-at-most-19-requires c κs = search needs
+smaller-requires : tie.Need-smaller-requires Inv-loop μ-loop
+smaller-requires c κs = search needs
 
 loop-holds : tie.Need-loop-holds Inv-loop μ-loop
 loop-holds c = (omega arith, passed-none _)
 
 shared-slice-read-b : tie.Need-shared-slice-read-b Inv-loop μ-loop
-shared-slice-read-b c = omega (arith, c .before .before .before .at-most-19 .ensures .0)
+shared-slice-read-b c = omega (arith, c .before .before .before .smaller .ensures)
 
 is-digit-requires : tie.Need-is-digit-requires Inv-loop μ-loop
 is-digit-requires c κs = search needs
@@ -43,7 +44,7 @@ digit c = sym (c .before .is-digit .ensures) ∙ not-false _ (c .if1 .left)
 checked-number-requires : tie.Need-checked-number-requires Inv-loop μ-loop
 checked-number-requires c κs =
     let l = c .before .before .before .before .loop in
-    let a = c .before .before .before .before .before .at-most-19 .ensures in
+    let a = c .before .before .before .before .before .smaller .ensures in
     let t = c .before .before .before .loop-test .taken in
     passed-end _ (l .value) (l .n) (l .inv .1) (omega arith)
     (inr (ends-at _ (l .value) (l .n) (l .inv .1) (omega arith) (sym (c .before .is-digit .ensures) ∙ not-true _ (c .if1 .taken))))
@@ -54,7 +55,7 @@ returns c = search needs
 mul-value : tie.Need-mul-value Inv-loop μ-loop
 mul-value c =
     let l = c .before .before .before .before .loop in
-    let a = c .before .before .before .before .before .at-most-19 .ensures in
+    let a = c .before .before .before .before .before .smaller .ensures in
     let t = c .before .before .before .loop-test .taken in
     omega (arith, passed-fits _ (l .value) (l .n) (l .inv .1) (omega arith))
 
@@ -67,12 +68,12 @@ wide-requires c κs = search needs
 add-value : tie.Need-add-value Inv-loop μ-loop
 add-value c =
     let l = c .before .before .before .before .before .loop in
-    let a = c .before .before .before .before .before .before .at-most-19 .ensures in
+    let a = c .before .before .before .before .before .before .smaller .ensures in
     let t = c .before .before .before .before .loop-test .taken in
     omega (arith, digit-high _ (digit (c .before)), c .wide .ensures, passed-fits _ (l .value) (l .n) (l .inv .1) (omega arith))
 
 add-n : tie.Need-add-n Inv-loop μ-loop
-add-n c = omega (arith, c .before .before .before .before .before .before .at-most-19 .ensures .1 .0)
+add-n c = omega (arith, c .before .before .before .before .before .before .smaller .ensures)
 
 loop-less : tie.Need-loop-less Inv-loop μ-loop
 loop-less c = omega arith
@@ -80,22 +81,23 @@ loop-less c = omega arith
 loop-again : tie.Need-loop-again Inv-loop μ-loop
 loop-again c =
     let l = c .before .before .before .before .before .loop in
-    let a = c .before .before .before .before .before .before .at-most-19 .ensures in
+    let a = c .before .before .before .before .before .before .smaller .ensures in
     let t = c .before .before .before .before .loop-test .taken in
     (omega arith, rw (c .wide .ensures) (passed-more _ (l .value) (l .n) (l .inv .1) (omega arith) (digit (c .before))))
 
--- the loop ran to its end: nineteen digits, or the whole text
-ended : (c : tie.After-loop Inv-loop μ-loop) → (c .before .loop .n ≡ 19) ⊎ (run (drop (c .before .loop .n) (now (c .before .before .before .before .args .part))) ≡ [])
+-- the loop ran to its end: as many digits as are looked at, or the whole text
+ended : (c : tie.After-loop Inv-loop μ-loop) → (c .before .loop .n ≡ lookedAt) ⊎ (run (drop (c .before .loop .n) (now (c .before .before .before .before .args .part))) ≡ [])
 ended c =
     let l = c .before .loop in
-    let a = c .before .before .at-most-19 .ensures in
+    let a = c .before .before .smaller .ensures in
     let t = c .loop-test .left in
-    ⊎-elim (λ (h : c .before .before .at-most-19 .result ≡ length (now (c .before .before .before .before .args .part))). inr (ends-with _ (l .value) (l .n) (l .inv .1) (omega arith))) (λ (h : c .before .before .at-most-19 .result ≡ 19). inl (omega arith)) (a .1 .1)
+    let few : l .n ≤ lookedAt = omega arith in
+    ⊎-elim (λ e. inl e) (λ h. inr (ends-with _ (l .value) (l .n) (l .inv .1) (omega (arith, h)))) (eq-or-lt-of-le few)
 
 checked-number-requires-2 : tie.Need-checked-number-requires-2 Inv-loop μ-loop
 checked-number-requires-2 c κs =
     let l = c .before .loop in
-    let a = c .before .before .at-most-19 .ensures in
+    let a = c .before .before .smaller .ensures in
     passed-end _ (l .value) (l .n) (l .inv .1) (omega arith) (ended c)
 
 returns-2 : tie.Need-returns-2 Inv-loop μ-loop
@@ -107,7 +109,7 @@ read-number-spec =
     (tie.spec
     Inv-loop
     μ-loop
-    at-most-19-requires
+    smaller-requires
     loop-holds
     shared-slice-read-b
     is-digit-requires

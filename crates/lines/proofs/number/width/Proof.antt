@@ -5,7 +5,8 @@ use Prim.Native.Nat.{_+_}
 use native.Mathlib.Omega.{arith}
 use lib.ListN.{length}
 use Rattle.lines.specs.Number.{decimal}
-use Rattle.lines.proofs.Decimals.{decimal-pos, decimal-short, length-one, length-step}
+use Rattle.lines.proofs.Decimals.{decimal-pos, length-one, length-step}
+use Rattle.lines.proofs.Listing.{width-small}
 use Rattle.lines.proofs.number.width.Statement.{statement}
 use Rattle.lines.proofs.number.width.Tie as tie
 
@@ -21,7 +22,7 @@ loop-holds c = omega arith
 add-k : tie.Need-add-k Inv-loop μ-loop
 add-k c =
     let x = c .before .before .args .x in
-    omega (arith, decimal-pos (c .before .loop .rest), decimal-short x 19 (omega (arith, c .before .before .fits .x)))
+    omega (arith, decimal-pos (c .before .loop .rest), width-small x (omega (arith, c .before .before .fits .x)))
 
 loop-less : tie.Need-loop-less Inv-loop μ-loop
 loop-less c = omega arith

@@ -2,6 +2,7 @@
 -- Assumes nothing.
 use denote.Ref.{now}
 use borrow.Author.Needs.{needs}
+use Rattle.lines.specs.Line.{countOf}
 use Rattle.lines.proofs.ReaderRows.{four-all, four-none}
 use Rattle.lines.proofs.reading.front_four.Statement.{statement}
 use Rattle.lines.proofs.reading.front_four.Tie as tie
@@ -22,12 +23,14 @@ enum-known-numbers-2 : tie.Need-enum-known-numbers-2
 enum-known-numbers-2 c = search needs
 
 returns : tie.Need-returns
+unfolding countOf
 returns c =
     let s = c .before .before .before .before .before .before .before .before in
     let r = c .before .before .before .before .before .read-numbers in
     four-all (now (s .args .bytes)) _ _ (s .args .letter) (s .pre) (r .ensures) (r .kept .1 .1 .0) _ _ (c .before .before .numbers .given .1) (c .line-of-four .ensures)
 
 returns-2 : tie.Need-returns-2
+unfolding countOf
 returns-2 c =
     let s = c .before .before .before .before .before .before .before in
     let r = c .before .before .before .before .read-numbers in

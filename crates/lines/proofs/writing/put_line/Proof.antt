@@ -7,7 +7,7 @@ use lib.ListN.{length, length-drop}
 use denote.Ref.{now}
 use borrow.Author.Needs.{needs}
 use Rattle.lines.specs.declared.line.Line.{Line}
-use Rattle.lines.specs.Line.{kindOf, firstField, bytesOf}
+use Rattle.lines.specs.Line.{kindOf, firstField, bytesOf, openingLength}
 use Rattle.lines.proofs.Openings.{opening-length}
 use Rattle.lines.proofs.Lent.{rest-all}
 use Rattle.lines.proofs.Puts.{lent-back}
@@ -27,7 +27,7 @@ part-put-opening-end : tie.Need-part-put-opening-end
 part-put-opening-end c = search needs
 
 -- the opening's size
-opening-size : (c : tie.After-enum-told) → length (bytesOf (c .before .before .before .args .line)) ≡ 14
+opening-size : (c : tie.After-enum-told) → length (bytesOf (c .before .before .before .args .line)) ≡ openingLength
 opening-size c = ap (λ (l : Line). length (bytesOf l)) (c .enum-told .given .1) ∙ opening-length
 
 put-opening-requires : tie.Need-put-opening-requires
@@ -68,7 +68,7 @@ returns c =
     let t = c .before .before .before .before in
     let e = c .before .before .put-opening .ensures in (
       ap (λ (n : ℕ). s .args .at + n) (sym (opening-size t)),
-      lent-back (now (s .args .buf)) (s .args .at) 14 (bytesOf (s .args .line)) (c .before .before .put-opening .last .0) (omega (arith, s .pre)) (sym (opening-size t)) (rw (t .enum-told .given .1) e),
+      lent-back (now (s .args .buf)) (s .args .at) openingLength (bytesOf (s .args .line)) (c .before .before .put-opening .last .0) (omega (arith, s .pre)) (sym (opening-size t)) (rw (t .enum-told .given .1) e),
     )
 
 same-length-2 : tie.Need-same-length-2
