@@ -12,7 +12,7 @@ use borrow.Author.Tests.{eq-eqb, ne-eqb, eqb-true}
 use Rattle.quantity.proofs.Conditions.{both}
 use Rattle.lines.specs.Bytes.{comma}
 use Rattle.lines.specs.Number.{decimal, isDigit, areDigits, valueOf, isNumber, mostDigits}
-use Rattle.lines.specs.Parts.{run, numberAt, oneMore, fieldAt}
+use Rattle.lines.specs.inside.Parts.{run, numberAt, oneMore, fieldAt}
 use Rattle.lines.specs.declared.number.Field.{Field}
 use Rattle.lines.specs.declared.number.Field.the-variants.{Number, Missing}
 use Rattle.lines.proofs.Decimals.{decimal-digits, decimal-number, value-decimal, number-decimal, number-small}

@@ -13,7 +13,7 @@ use Rattle.lines.specs.Bytes.{lineFeed, comma}
 use Rattle.lines.specs.Number.{decimal, isLong, mostDigits}
 use Rattle.lines.specs.Line.{kindOf, firstField, numbersOf, afterCommas, textOf, bytesOf, mostNumbers}
 use Rattle.lines.specs.Writing.{someLong, putAt}
-use Rattle.lines.specs.Parts.{mostWidth, mostBytes, Lists}
+use Rattle.lines.specs.inside.Parts.{mostWidth, mostBytes, Lists}
 use Rattle.lines.specs.declared.line.Line.{Line}
 use Rattle.lines.specs.declared.listed.Listed.{Listed}
 use Rattle.lines.proofs.Decimals.{decimal-short}

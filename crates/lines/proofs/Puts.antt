@@ -10,7 +10,7 @@ use lib.Seq.{set-at, drop-cons, getD-set-same, drop-set-lt, set-split, take-all,
 use Rattle.lines.specs.Bytes.{comma, digitZero}
 use Rattle.lines.specs.Number.{decimal}
 use Rattle.lines.specs.Writing.{putAt}
-use Rattle.lines.specs.Parts.{lastDigits}
+use Rattle.lines.specs.inside.Parts.{lastDigits}
 use Rattle.lines.proofs.Lent.{rest-all}
 use Rattle.lines.proofs.Decimals.{decimal-ind, decimal-one, decimal-step}
 

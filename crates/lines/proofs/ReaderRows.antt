@@ -19,7 +19,7 @@ use Rattle.lines.specs.Bytes.{lineFeed, comma, letterC, letterE, letterS
 use Rattle.lines.specs.Number.{decimal, decimalBy}
 use Rattle.lines.specs.Line.{Kind, opening, sample, totals, kindOf, firstField, numbersOf, afterCommas, textOf, bytesOf, contentRows, openingLength, mostNumbers, countOf, cardOf, lineOf}
 use Rattle.lines.specs.Reading.{isSame, untilEnd, sizeOf, split, fieldsIn, firstIn, numbersIn, shapeRows, dueKind, lineIn, lineRows, readRows, answerOf, readOf}
-use Rattle.lines.specs.Parts.{Lettered, NumbersRead, all, refused, FourLetter, fourKind}
+use Rattle.lines.specs.inside.Parts.{Lettered, NumbersRead, all, refused, FourLetter, fourKind}
 use Rattle.lines.specs.declared.fields.Numbers.{Numbers}
 use Rattle.lines.specs.declared.fields.Numbers.the-variants as A
 use Rattle.lines.specs.declared.line.Line.{Line}

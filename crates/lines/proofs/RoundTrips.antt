@@ -21,7 +21,7 @@ use Rattle.lines.specs.Number.{decimal, isLong}
 use Rattle.lines.specs.Line.{Kind, opening, card, sample, totals, kindOf, firstField, numbersOf, afterCommas, textOf, bytesOf, contentRows, countOf, lineOf, openingLength}
 use Rattle.lines.specs.Reading.{isSame, sizeOf, fieldsIn, firstIn, numbersIn, shapeRows, dueKind, lineIn, lineRows, readRows, answerOf, readOf, restOf}
 use Rattle.lines.specs.Writing.{someLong, writeRows, placeOf, writtenOf, putAt, bufferAfter}
-use Rattle.lines.specs.Parts.{FourLetter, fourKind}
+use Rattle.lines.specs.inside.Parts.{FourLetter, fourKind}
 use Rattle.lines.specs.RoundTrip.{toldOf, ReadsBack, WritesBack}
 use Rattle.lines.specs.declared.line.Line.{Line}
 use Rattle.lines.specs.declared.line.Line.the-variants as L

@@ -14,7 +14,7 @@ use lib.Seq.{drop-cons, take-suc, take-at, take-all, length-take-le}
 use borrow.Author.Tests.{le-leb, lt-leb, eq-eqb, ne-eqb}
 use Rattle.lines.specs.Bytes.{digitZero}
 use Rattle.lines.specs.Number.{isDigit, areDigits, valueOf, mostDigits, isNumber}
-use Rattle.lines.specs.Parts.{run, numberAt, lookedAt, Digits}
+use Rattle.lines.specs.inside.Parts.{run, numberAt, lookedAt, Digits}
 use Rattle.lines.specs.declared.number.Field.the-variants.{Number, Missing}
 use Rattle.lines.proofs.Decimals.{digits-snoc, value-snoc, value-below}
 

@@ -1,10 +1,10 @@
--- What the contracts of this crate, and of those above it, cite.
+-- What the contracts of this crate, and of those above it, cite, and the statements of its theorems.
 pub mod Bytes
 pub mod Number
 pub mod Line
 pub mod Reading
 pub mod Writing
 pub mod RoundTrip
-pub mod Parts
 pub mod Report
 pub mod Theorems
+pub mod inside

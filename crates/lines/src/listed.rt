@@ -9,7 +9,7 @@ ghost use lib.ListN.{length};
 ghost use Rattle.lines.specs.Number.{decimal};
 ghost use Rattle.lines.specs.Line.{kindOf, firstField, numbersOf, afterCommas, openingLength, mostNumbers};
 ghost use Rattle.lines.specs.Writing.{someLong};
-ghost use Rattle.lines.specs.Parts.{Lists, mostBytes};
+ghost use Rattle.lines.specs.inside.Parts.{Lists, mostBytes};
 
 // The card's line has the most numbers.
 pub(crate) const MOST_NUMBERS: usize = 12;

@@ -5,7 +5,7 @@ ghost use Prim.Native.Nat.{_+_, _≤_, min};
 ghost use lib.ListN.{length, drop};
 ghost use Rattle.lines.specs.Bytes.{comma};
 ghost use Rattle.lines.specs.Number.{isDigit, decimal};
-ghost use Rattle.lines.specs.Parts.{Digits, numberAt, fieldAt, lastDigits};
+ghost use Rattle.lines.specs.inside.Parts.{Digits, numberAt, fieldAt, lastDigits};
 
 const MOST_DIGITS: usize = 18;
 

@@ -17,7 +17,7 @@ ghost use Rattle.quantity.specs.Refusals.{firstOf};
 ghost use Rattle.meter.specs.Card.{cardRows};
 ghost use Rattle.lines.specs.Reading.{answerOf, readOf, restOf};
 ghost use Rattle.lines.specs.Line.{lineOf};
-ghost use Rattle.lines.specs.Parts.{Lettered, FourLetter, fourKind};
+ghost use Rattle.lines.specs.inside.Parts.{Lettered, FourLetter, fourKind};
 ghost use Rattle.lines.specs.declared.line.Line.the-variants as L;
 ghost use Rattle.lines.specs.declared.line.MayCome.the-variants as M;
 

@@ -6,7 +6,7 @@ use mathlib.Core.List.{_++_}
 use Prim.Native.Nat.{_-_, _≤_, _<_}
 use native.Mathlib.Omega.{arith}
 use lib.ListN.{length, drop, length-set}
-use Rattle.lines.specs.Parts.{lastDigits}
+use Rattle.lines.specs.inside.Parts.{lastDigits}
 use Rattle.lines.proofs.Puts.{digit-turn}
 use Rattle.lines.proofs.number.put_digits.Statement.{statement}
 use Rattle.lines.proofs.number.put_digits.Tie as tie

@@ -5,7 +5,7 @@ use native.Mathlib.Omega.{arith}
 use lib.ListN.{length-drop}
 use denote.Ref.{now}
 use borrow.Author.Needs.{needs}
-use Rattle.lines.specs.Parts.{numberAt, oneMore, fieldAt}
+use Rattle.lines.specs.inside.Parts.{numberAt, oneMore, fieldAt}
 use Rattle.lines.proofs.FieldLaws.{field-empty, field-other, field-comma, number-within}
 use Rattle.lines.proofs.Lent.{rest-all}
 use Rattle.lines.proofs.number.read_field.Statement.{statement}

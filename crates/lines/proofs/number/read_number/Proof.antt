@@ -13,7 +13,7 @@ use denote.Ref.{now}
 use borrow.Author.Needs.{needs}
 use borrow.Author.Tests.{not-true, not-false}
 use Rattle.lines.specs.Number.{isDigit}
-use Rattle.lines.specs.Parts.{run, lookedAt}
+use Rattle.lines.specs.inside.Parts.{run, lookedAt}
 use Rattle.lines.proofs.Decimals.{digit-low, digit-high}
 use Rattle.lines.proofs.Runs.{Passed, passed-none, passed-fits, passed-more, passed-end, ends-at, ends-with}
 use Rattle.lines.proofs.number.read_number.Statement.{statement}

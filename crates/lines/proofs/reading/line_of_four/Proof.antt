@@ -4,7 +4,7 @@ use borrow.Author.Needs.{needs}
 use borrow.Author.Tests.{eq-eqb, ne-eqb}
 use Rattle.lines.specs.Bytes.{letterE}
 use Rattle.lines.specs.Line.{lineOf}
-use Rattle.lines.specs.Parts.{fourKind}
+use Rattle.lines.specs.inside.Parts.{fourKind}
 use Rattle.lines.proofs.reading.line_of_four.Statement.{statement}
 use Rattle.lines.proofs.reading.line_of_four.Tie as tie
 

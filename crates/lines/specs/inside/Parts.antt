@@ -1,5 +1,4 @@
--- What the functions inside reader and writer answer. None of it is part of what reading and writing mean: the public contracts cite
--- specs/Reading.antt and specs/Writing.antt alone.
+-- What the functions inside reader and writer answer.
 use mathlib.Core.Path.{_≡_}
 use Prim.Native.Nat.{ℕ, zero, suc, _+_, _*_, _/_, _%_, _≤_, _<_}
 use mathlib.Core.Bool.{cond}
