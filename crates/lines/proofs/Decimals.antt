@@ -12,6 +12,7 @@ use borrow.Author.Tests.{ltb-true, ltb-false, leb-true, eqb-false, lt-ltb, le-lt
 use Rattle.quantity.proofs.Conditions.{both}
 use Rattle.lines.specs.Bytes.{digitZero, digitNine}
 use Rattle.lines.specs.Number.{decimalBy, decimal, isDigit, areDigits, valueOf, isNumber, mostDigits}
+use Rattle.lines.specs.Theorems.{DecimalNumber, NumberDecimal, ValueDecimal}
 
 -- ---- digit by digit
 
@@ -102,7 +103,7 @@ value-snoc (x ∷ d) b =
     let l : length (d ++ (b ∷ [])) ≡ suc (length d) = length-append d (b ∷ []) ∙ omega arith in
     rw (value-snoc d b, l, pow-suc 10 (length d)) (in-front (x - digitZero) (10 ^ length d) (valueOf d) (b - digitZero))
 
-pub value-decimal : (n : ℕ) → valueOf (decimal n) ≡ n
+pub value-decimal : ValueDecimal
 unfolding valueOf
 value-decimal = decimal-ind (λ n. valueOf (decimal n) ≡ n) one step
   where
@@ -169,8 +170,7 @@ decimal-lead = decimal-ind (λ n. 1 ≤ n → getD (decimal n) 0 0 ≡ digitZero
 
 -- ---- the only text
 
--- LAW: the text of a value of at most 18 digits is a number's
-pub decimal-number : (n : ℕ) → n < 10 ^ mostDigits → isNumber (decimal n) ≡ true
+pub decimal-number : DecimalNumber
 unfolding isNumber
 decimal-number n h =
     let p : length (decimal n) ≤ mostDigits = decimal-short n mostDigits (omega arith) h in
@@ -205,8 +205,7 @@ decimal-sofar v (b ∷ d) h p =
     decimal-sofar (v * 10 + (b - digitZero)) d (omega arith) (t .1)
     ∙ simp (decimal-step (v * 10 + (b - digitZero)) (omega arith), q, r, append-assoc)
 
--- LAW: a number's text is the text of what it says
-pub number-decimal : (d : List ℕ) → isNumber d ≡ true → decimal (valueOf d) ≡ d
+pub number-decimal : NumberDecimal
 unfolding isNumber areDigits valueOf
 number-decimal [] q = absurd (let z : _≡_ {A = ℕ} 0 1 = cc q in omega arith)
 number-decimal (b ∷ []) q =

@@ -3,7 +3,6 @@
 use mathlib.Core.Path.{_≡_, refl, sym, ap, _∙_, subst}
 use mathlib.Core.Bool.{Bool, true, false, cond, not, _||_}
 use mathlib.Core.List.{List, [], _∷_}
-use mathlib.Core.Logic.{_↔_}
 use Prim.Native.Nat.{ℕ}
 use native.Mathlib.Omega.{arith}
 use lib.ListN.{take}
@@ -14,6 +13,7 @@ use Rattle.meter.specs.Card.{cardRows}
 use Rattle.lines.specs.Line.{sample, totals, firstField, countOf, cardOf, lineOf, bytesOf, contentRows, openingLength}
 use Rattle.lines.specs.Reading.{isSame, sizeOf, firstIn, othersIn, numbersIn, areNumbers, isMisshapen, shapeRows, dueKind, lineIn, lineRows, readRows, answerOf, readOf}
 use Rattle.lines.specs.RoundTrip.{Cause, no-opening, misshapen, no-number, card-row}
+use Rattle.lines.specs.Theorems.{RefusedExactly, EitherLetter}
 use Rattle.lines.specs.declared.line.Line.{Line}
 use Rattle.lines.specs.declared.line.Line.the-variants as L
 use Rattle.lines.specs.declared.line.MayCome.{MayCome}
@@ -111,17 +111,14 @@ module _ (bs : List ℕ) where
   refusal M.SampleOrEnd r (no-number o m n) = four-rows ∙ rw (m, n)
   refusal may r (card-row k m n e) = card-rows ∙ rw (m, n) e
 
--- THEOREM: the reader refuses with a number exactly where that number's own condition is the first that holds
-pub refused-exactly : (may : MayCome) (bs : List ℕ) (r : ℕ) → (readOf may bs ≡ F.Refused r) ↔ Cause bs may r
+pub refused-exactly : RefusedExactly
 unfolding readOf
 refused-exactly may bs r = (
   λ e. cause bs may r (of-rows (lineIn may bs) (sizeOf bs) r (firstOf (readRows may bs)) e),
   λ c. rows-of (lineIn may bs) (sizeOf bs) r (firstOf (readRows may bs)) (refusal bs may r c),
 )
 
--- the letter that is due where S and E may come: a first field that is neither is the wrong one
-pub either-letter : (bs : List ℕ)
-    → isSame (firstIn bs) (firstField (dueKind M.SampleOrEnd bs)) ≡ (isSame (firstIn bs) (firstField totals) || isSame (firstIn bs) (firstField sample))
+pub either-letter : EitherLetter
 unfolding dueKind
 either-letter bs = go (isSame (firstIn bs) (firstField totals)) refl
   where

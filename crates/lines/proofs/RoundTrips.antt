@@ -22,7 +22,8 @@ use Rattle.lines.specs.Line.{Kind, opening, card, sample, totals, kindOf
 use Rattle.lines.specs.Reading.{isSame, sizeOf, fieldsIn, firstIn, numbersIn, shapeRows, dueKind, lineIn, lineRows, readRows, answerOf, readOf, restOf}
 use Rattle.lines.specs.Writing.{someLong, writeRows, placeOf, writtenOf, putAt, bufferAfter}
 use Rattle.lines.specs.inside.Parts.{FourLetter, fourKind}
-use Rattle.lines.specs.RoundTrip.{toldOf, ReadsBack, WritesBack}
+use Rattle.lines.specs.RoundTrip.{toldOf, WritesBack}
+use Rattle.lines.specs.Theorems.{WrittenThenRead, ReadThenWritten, ReadWithin, OneLine, SameBytes, NoOtherBegins}
 use Rattle.lines.specs.declared.line.Line.{Line}
 use Rattle.lines.specs.declared.line.Line.the-variants as L
 use Rattle.lines.specs.declared.line.MayCome.{MayCome}
@@ -95,8 +96,7 @@ put-from : (buf : List ℕ) (at : ℕ) (text : List ℕ) → at ≤ length buf �
 unfolding putAt
 put-from buf at text h = drop-at (take at buf) (text ++ drop (at + length text) buf) at (length-take-le at buf h)
 
--- THEOREM: writing, then reading
-pub written-then-read : (buf : List ℕ) (at : ℕ) (line : Line) (next : ℕ) → writtenOf (length buf) at line ≡ W.Next next → ReadsBack (bufferAfter buf at (bytesOf line) (W.Next next)) at line next
+pub written-then-read : WrittenThenRead
 unfolding writtenOf bufferAfter restOf
 written-then-read buf at line next e =
     let p = next-place next (at + length (bytesOf line)) (firstOf (writeRows (length buf) at line)) e in
@@ -189,8 +189,7 @@ writes M.Opening bs e = writes-opening bs e
 writes M.Card bs e = writes-due M.Card bs card (λ o. let z : _≡_ {A = ℕ} 0 1 = cc o in omega arith) refl e
 writes M.SampleOrEnd bs e = writes-four bs (isSame (firstIn bs) (firstField totals)) e
 
--- THEOREM: reading, then writing
-pub read-then-written : (may : MayCome) (bs : List ℕ) (line : Line) (n : ℕ) → readOf may bs ≡ F.Read line n → WritesBack may bs line n
+pub read-then-written : ReadThenWritten
 unfolding readOf
 read-then-written may bs line n e =
     let a = answered line (lineIn may bs) n (sizeOf bs) (firstOf (readRows may bs)) e in
@@ -200,8 +199,7 @@ some-bytes : (line : Line) → 1 ≤ length (bytesOf line)
 unfolding bytesOf textOf
 some-bytes line = simp length-append (omega arith)
 
--- a line that was read takes some of the bytes, and no more than there are
-pub read-within : (may : MayCome) (bs : List ℕ) (line : Line) (n : ℕ) → readOf may bs ≡ F.Read line n → (1 ≤ n) × (n ≤ length bs)
+pub read-within : ReadWithin
 unfolding restOf
 read-within may bs line n e =
     let w = read-then-written may bs line n e in
@@ -220,8 +218,7 @@ kind-named card = refl
 kind-named sample = refl
 kind-named totals = refl
 
--- THEOREM: bytes that begin with a line's bytes begin with no other line's
-pub one-line : (k l : Line) (s t : List ℕ) → bytesOf k ++ s ≡ bytesOf l ++ t → (k ≡ l) × (s ≡ t)
+pub one-line : OneLine
 one-line k l s t e =
     let fields : firstField (kindOf k) ∷ map decimal (numbersOf k) ≡ firstField (kindOf l) ∷ map decimal (numbersOf l) =
     sym (bytes-fields k s) ∙ ap fieldsIn e ∙ bytes-fields l t in
@@ -236,12 +233,10 @@ one-line k l s t e =
     bytes-fields : (j : Line) (r : List ℕ) → fieldsIn (bytesOf j ++ r) ≡ firstField (kindOf j) ∷ map decimal (numbersOf j)
     bytes-fields j r = ap fieldsIn (line-bytes j r) ∙ fields-back (firstField (kindOf j)) (numbersOf j) r (plain (kindOf j))
 
--- THEOREM: two lines with the same bytes are the same line
-pub same-bytes : (k l : Line) → bytesOf k ≡ bytesOf l → k ≡ l
+pub same-bytes : SameBytes
 same-bytes k l e = one-line k l [] [] (ap (λ (b : List ℕ). b ++ []) e) .0
 
--- THEOREM: no line's bytes begin with another line's
-pub no-other-begins : (k l : Line) (rest : List ℕ) → bytesOf k ≡ bytesOf l ++ rest → (k ≡ l) × (rest ≡ [])
+pub no-other-begins : NoOtherBegins
 no-other-begins k l rest e =
     let p = one-line k l [] rest (append-nil (bytesOf k) ∙ e) in
     (p .0, sym (p .1))

@@ -60,7 +60,6 @@ unfolding placeOf
 next-place next n Accepted e = (refl, sym (cc e))
 next-place next n (Refused r) e = absurd (let z : _≡_ {A = ℕ} 0 1 = cc e in omega arith)
 
--- THEOREM: a line is writable exactly where no row of its content refuses it and none of its numbers is too long
 pub writable-exactly : WritableExactly
 unfolding writtenOf placeOf
 writable-exactly line = (forth, back)

@@ -1,5 +1,4 @@
--- What reader and writer have to do with each other, as statements about what each of them means (specs/Reading.antt, specs/Writing.antt).
--- They are proved in proofs/RoundTrips.antt and proofs/Exactness.antt.
+-- What reader and writer have to do with each other, and what a refusal of the reader says: what the theorems of specs/Theorems.antt give.
 use mathlib.Core.Path.{_≡_}
 use mathlib.Core.Bool.{true, false}
 use mathlib.Core.List.{List, _++_}
