@@ -12,7 +12,7 @@ use Rattle.archive.specs.declared.answer.Audited.{Audited}
 use Rattle.archive.specs.declared.answer.Audited.the-variants as A
 
 unfoldable pub ofAudited : Audited → Report
-ofAudited (A.Accepted m) = R.Register (m .card .serial) (m .accepted) (m .refused) (m .register) (m .volume)
+ofAudited (A.Accepted m) = R.EndState (m .card .serial) (m .accepted) (m .refused) (m .register) (m .volume)
 ofAudited (A.Refused number line) = R.Refusal number line
 
 unfoldable pub reportOf : ℕ → List ℕ → Report

@@ -34,7 +34,7 @@ fn of_audited(answer: Audited) -> Report
     ensures { λ r. ⌜ r ≡ ofAudited answer ⌝ }
 {
     match answer {
-        Audited::Accepted(m) => Report::Register {
+        Audited::Accepted(m) => Report::EndState {
             serial: m.card.serial,
             accepted: m.accepted,
             refused: m.refused,

@@ -13,7 +13,7 @@ use Rattle.lines.specs.declared.report.Report.the-variants as R
 
 -- 82 is the letter R and 88 the letter X
 unfoldable pub reportText : Report → List ℕ
-reportText (R.Register serial accepted refused register volume) = textOf (82 ∷ []) (serial ∷ accepted ∷ refused ∷ register ∷ volume ∷ [])
+reportText (R.EndState serial accepted refused register volume) = textOf (82 ∷ []) (serial ∷ accepted ∷ refused ∷ register ∷ volume ∷ [])
 reportText (R.Refusal number line) = textOf (88 ∷ []) (number ∷ line ∷ [])
 
 -- The place after a text at the front of a buffer of size bytes. Of the writer's rows only "66 line longer than what follows the place" can

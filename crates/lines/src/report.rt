@@ -13,7 +13,7 @@ ghost use Rattle.lines.specs.Writing.{bufferAfter};
 
 // What an audit found: the state that the file ends with, or the first refusal and its line.
 pub enum Report {
-    Register {
+    EndState {
         serial: u64,
         accepted: u64,
         refused: u64,
@@ -32,7 +32,7 @@ pub fn write_report(buf: &mut [u8], report: Report) -> Written
     ensures { λ r. ⌜ now (buf .exit) ≡ bufferAfter (now (buf .entry)) 0 (reportText report) r ⌝ }
 {
     match report {
-        Report::Register {
+        Report::EndState {
             serial,
             accepted,
             refused,
