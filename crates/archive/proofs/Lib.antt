@@ -11,3 +11,4 @@ pub mod OneLine
 pub mod Nothing
 pub mod Turning
 pub mod Starting
+pub mod Inputs

@@ -4,3 +4,4 @@ pub mod Audit
 pub mod Turns
 pub mod Archive
 pub mod Report
+pub mod Theorems

@@ -5,4 +5,5 @@ mod printing;
 
 pub use answer::Audited;
 pub use auditing::audit;
+pub use printing::AUDIT_LIMIT;
 pub use printing::report;

@@ -1,33 +1,35 @@
 // The audit's output line, for the program (document 01, "Edges", and the row "Program").
 use crate::answer::Audited;
 use crate::auditing::audit;
+use lines::OutputLine;
 use lines::Report;
-use lines::Written;
 ghost use mathlib.Core.Path.{_≡_};
-ghost use lib.ListN.{length};
-ghost use Rattle.lines.specs.Report.{reportText, placedOf};
-ghost use Rattle.lines.specs.Writing.{bufferAfter};
-ghost use Rattle.archive.specs.Report.{ofAudited, reportOf};
+ghost use Prim.Native.Nat.{_≤_};
+ghost use Rattle.lines.specs.Report.{reportText, longestLine, outputOf};
+ghost use Rattle.archive.specs.Report.{ofAudited, reportIn};
 
-// Audits the bytes and puts the whole output line at the front of buf: 68, as line 0, exactly when they are more than limit.
-pub fn report(bytes: &[u8], limit: usize, buf: &mut [u8]) -> Written
-    ensures { λ r. ⌜ r ≡ placedOf (length (now (buf .entry))) (reportText (reportOf limit (now (bytes .entry)))) ⌝ }
-    ensures { λ r. ⌜ now (buf .exit) ≡ bufferAfter (now (buf .entry)) 0 (reportText (reportOf limit (now (bytes .entry)))) r ⌝ }
+// "68 input over 65536 bytes": the audit program's limit. It needs a space of one byte more, to tell.
+pub const AUDIT_LIMIT: usize = 65536;
+
+// The output line of the audit of an input that stands in the first used bytes of the space: 68, as line 0, exactly when it has more bytes
+// than limit or fills the space.
+pub fn report(space: &[u8], used: usize, limit: usize) -> OutputLine
+    ensures { λ r. ⌜ r ≡ outputOf (reportText (reportIn limit (now (space .entry)) used)) ⌝ }
+    ensures { λ r. ⌜ r .length ≤ longestLine ⌝ }
 {
-    let what = found(bytes, limit);
-    lines::write_report(buf, what)
+    lines::report_line(found(space, used, limit))
 }
 
-fn found(bytes: &[u8], limit: usize) -> Report
-    ensures { λ r. ⌜ r ≡ reportOf limit (now (bytes .entry)) ⌝ }
+fn found(space: &[u8], used: usize, limit: usize) -> Report
+    ensures { λ r. ⌜ r ≡ reportIn limit (now (space .entry)) used ⌝ }
 {
-    if limit < bytes.len() {
+    if limit < used || space.len() <= used {
         return Report::Refusal {
             number: 68,
             line: 0,
         };
     }
-    of_audited(audit(bytes))
+    of_audited(audit(&space[..used]))
 }
 
 fn of_audited(answer: Audited) -> Report

@@ -1,13 +1,11 @@
 -- The line that the audit program prints, document 01, "Edges": "prints R, serial, accepted, refused, register, volume; or X, refusal, line;
 -- ended by byte 0A". It is parted and ended as the archive's lines are.
-use Prim.Native.Nat.{ℕ}
+use Prim.Native.Nat.{ℕ, _+_, _*_}
 use mathlib.Core.List.{List, [], _∷_}
-use lib.Dec.{ltb}
-use lib.ListN.{length}
-use Rattle.quantity.specs.Refusals.{row, firstOf}
+use lib.ListN.{length, replicate}
 use Rattle.lines.specs.Line.{textOf}
-use Rattle.lines.specs.Writing.{placeOf}
-use Rattle.lines.specs.declared.line.Written.{Written}
+use Rattle.lines.specs.Writing.{putAt}
+use Rattle.lines.specs.declared.report.OutputLine.{OutputLine}
 use Rattle.lines.specs.declared.report.Report.{Report}
 use Rattle.lines.specs.declared.report.Report.the-variants as R
 
@@ -16,7 +14,10 @@ unfoldable pub reportText : Report → List ℕ
 reportText (R.EndState serial accepted refused register volume) = textOf (82 ∷ []) (serial ∷ accepted ∷ refused ∷ register ∷ volume ∷ [])
 reportText (R.Refusal number line) = textOf (88 ∷ []) (number ∷ line ∷ [])
 
--- The place after a text at the front of a buffer of size bytes. Of the writer's rows only "66 line longer than what follows the place" can
--- apply: the place is the front, and the line has no card and any numbers of 64 bits.
-unfoldable pub placedOf : ℕ → List ℕ → Written
-placedOf size text = placeOf (length text) (firstOf (row 66 (ltb size (length text)) ∷ []))
+-- the bytes of the longest output line: a letter, five numbers of 64 bits, each a comma and at most 20 digits, and the line feed
+abbrev pub longestLine : ℕ
+longestLine = 1 + 5 * (1 + 20) + 1
+
+-- a text at the front of that many bytes, the others being zero, and its length
+unfoldable pub outputOf : List ℕ → OutputLine
+outputOf text = record { bytes = putAt (replicate longestLine 0) 0 text; length = length text }

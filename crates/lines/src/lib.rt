@@ -19,6 +19,7 @@ pub use line::Totals;
 pub use line::Written;
 pub use reading::front_line;
 pub use reading::rest_after;
+pub use report::OutputLine;
 pub use report::Report;
-pub use report::write_report;
+pub use report::report_line;
 pub use writing::write_line;

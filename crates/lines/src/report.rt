@@ -1,15 +1,15 @@
 // The line that the audit program prints (document 01, "Edges": "prints R, serial, accepted, refused, register, volume; or X, refusal,
 // line; ended by byte 0A").
-use crate::line::Written;
-use crate::listed::fields_length;
 use crate::writing::put_text;
 ghost use mathlib.Core.Path.{_≡_};
 ghost use mathlib.Core.List.{_∷_, []};
 ghost use Prim.Native.Nat.{_≤_};
 ghost use lib.ListN.{length};
 ghost use Rattle.lines.specs.Line.{textOf};
-ghost use Rattle.lines.specs.Report.{reportText, placedOf};
-ghost use Rattle.lines.specs.Writing.{bufferAfter};
+ghost use Rattle.lines.specs.Report.{reportText, longestLine, outputOf};
+
+// No output line is longer: a letter, five numbers, each a comma and at most 20 digits, and the line feed.
+const LONGEST: usize = 107;
 
 // What an audit found: the state that the file ends with, or the first refusal and its line.
 pub enum Report {
@@ -26,10 +26,16 @@ pub enum Report {
     },
 }
 
-// Puts the report's line at the front of buf, and answers the place after it; 66 where buf is too short.
-pub fn write_report(buf: &mut [u8], report: Report) -> Written
-    ensures { λ r. ⌜ r ≡ placedOf (length (now (buf .entry))) (reportText report) ⌝ }
-    ensures { λ r. ⌜ now (buf .exit) ≡ bufferAfter (now (buf .entry)) 0 (reportText report) r ⌝ }
+// The first length of the bytes are the line. It comes by value, so that no space of a caller can be too short for it.
+pub struct OutputLine {
+    pub bytes: [u8; LONGEST],
+    pub length: usize,
+}
+
+// The report's line.
+pub fn report_line(report: Report) -> OutputLine
+    ensures { λ r. ⌜ r ≡ outputOf (reportText report) ⌝ }
+    ensures { λ r. ⌜ r .length ≤ longestLine ⌝ }
 {
     match report {
         Report::EndState {
@@ -38,20 +44,18 @@ pub fn write_report(buf: &mut [u8], report: Report) -> Written
             refused,
             register,
             volume,
-        } => put_within(buf, b'R', &[serial, accepted, refused, register, volume]),
-        Report::Refusal { number, line } => put_within(buf, b'X', &[number, line]),
+        } => output_of(b'R', &[serial, accepted, refused, register, volume]),
+        Report::Refusal { number, line } => output_of(b'X', &[number, line]),
     }
 }
 
-// Puts a letter and numbers, where there is room.
-fn put_within(buf: &mut [u8], letter: u8, numbers: &[u64]) -> Written
-    requires { ⌜ length (now numbers) ≤ 12 ⌝ }
-    ensures { λ r. ⌜ r ≡ placedOf (length (now (buf .entry))) (textOf (letter ∷ []) (now (numbers .entry))) ⌝ }
-    ensures { λ r. ⌜ now (buf .exit) ≡ bufferAfter (now (buf .entry)) 0 (textOf (letter ∷ []) (now (numbers .entry))) r ⌝ }
+// The output line of a letter and numbers.
+fn output_of(letter: u8, numbers: &[u64]) -> OutputLine
+    requires { ⌜ length (now numbers) ≤ 5 ⌝ }
+    ensures { λ r. ⌜ r ≡ outputOf (textOf (letter ∷ []) (now (numbers .entry))) ⌝ }
+    ensures { λ r. ⌜ r .length ≤ longestLine ⌝ }
 {
-    let size = fields_length(numbers) + 2;
-    if buf.len() < size {
-        return Written::Refused(66);
-    }
-    Written::Next(put_text(buf, 0, letter, numbers))
+    let mut bytes = [0u8; LONGEST];
+    let length = put_text(&mut bytes, 0, letter, numbers);
+    OutputLine { bytes, length }
 }

@@ -1,8 +1,9 @@
--- `audit::main` is safe: what was read stands within the space.
+-- `audit::main` is safe: what was read stands within the space, and the line within its bytes.
 -- Assumes nothing.
 use mathlib.Core.Path.{sym}
 use lib.Seq.{length-take-le}
 use borrow.Author.Needs.{needs}
+use Rattle.lines.proofs.Reports.{within-bytes}
 use Rattle.audit.proofs.main.Statement.{statement}
 use Rattle.audit.proofs.main.Tie as tie
 
@@ -12,14 +13,20 @@ slice-aggregate-read-all c = search needs
 read-all-requires : tie.Need-read-all-requires
 read-all-requires c κs = search needs
 
-array-share-prefix-space : tie.Need-array-share-prefix-space
-array-share-prefix-space c = search needs
+slice-aggregate-answer : tie.Need-slice-aggregate-answer
+slice-aggregate-answer c = search needs
 
-slice-aggregate-print-report : tie.Need-slice-aggregate-print-report
-slice-aggregate-print-report c = sym (length-take-le _ _ (c .before .before .before .before .read-all .ensures))
+answer-requires : tie.Need-answer-requires
+answer-requires c κs = search needs
 
-print-report-requires : tie.Need-print-report-requires
-print-report-requires c κs = search needs
+array-share-prefix-bytes : tie.Need-array-share-prefix-bytes
+array-share-prefix-bytes c = within-bytes _ _ (c .before .answer .ensures .0) (c .before .answer .ensures .1)
+
+slice-aggregate-write-all : tie.Need-slice-aggregate-write-all
+slice-aggregate-write-all c = sym (length-take-le _ _ (array-share-prefix-bytes (c .before)))
+
+write-all-requires : tie.Need-write-all-requires
+write-all-requires c κs = search needs
 
 returns : tie.Need-returns
 returns c = search needs
@@ -33,8 +40,10 @@ main-spec =
     (tie.spec
     slice-aggregate-read-all
     read-all-requires
-    array-share-prefix-space
-    slice-aggregate-print-report
-    print-report-requires
+    slice-aggregate-answer
+    answer-requires
+    array-share-prefix-bytes
+    slice-aggregate-write-all
+    write-all-requires
     returns
     returns-2)

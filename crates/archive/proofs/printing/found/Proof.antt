@@ -1,17 +1,21 @@
--- `archive::printing::found` meets its contract: the limit before all else.
+-- `archive::printing::found` meets its contract: the limit and the space before all else.
 -- Assumes nothing.
 use mathlib.Core.Path.{sym, ap, _∙_}
-use lib.ListN.{length}
-use denote.Ref.{now}
-use borrow.Author.Tests.{lt-ltb, le-ltb}
-use Rattle.archive.specs.Report.{ofAudited, reportOf}
+use mathlib.Core.Logic.{⊎-elim}
+use native.Mathlib.Nat.{le-of-lt}
+use lib.Seq.{length-take-le}
 use borrow.Author.Needs.{needs}
+use borrow.Author.Tests.{leb-true, leb-false}
+use Rattle.archive.specs.Report.{ofAudited}
+use Rattle.archive.proofs.Inputs.{over, full, audited}
 use Rattle.archive.proofs.printing.found.Statement.{statement}
 use Rattle.archive.proofs.printing.found.Tie as tie
 
 returns : tie.Need-returns
-unfolding reportOf
-returns c = simp (lt-ltb _ _ (c .if1 .taken))
+returns c = ⊎-elim (λ w. sym (over _ _ _ (w .taken))) (λ w. sym (full _ _ _ (w .0 .left) (leb-true _ _ (w .1 .taken)))) (c .if1 .came)
+
+slice-aggregate-audit : tie.Need-slice-aggregate-audit
+slice-aggregate-audit c = sym (length-take-le _ _ (le-of-lt (leb-false _ _ (c .before .if2 .left))))
 
 audit-requires : tie.Need-audit-requires
 audit-requires c κs = search needs
@@ -20,8 +24,9 @@ of-audited-requires : tie.Need-of-audited-requires
 of-audited-requires c κs = search needs
 
 returns-2 : tie.Need-returns-2
-unfolding reportOf
-returns-2 c = simp (le-ltb _ _ (c .before .before .if1 .left)) (c .of-audited .ensures ∙ ap ofAudited (c .before .audit .ensures))
+returns-2 c =
+    let d = c .before .before .before in
+    c .of-audited .ensures ∙ ap ofAudited (c .before .audit .ensures) ∙ sym (audited _ _ _ (d .before .if1 .left) (leb-false _ _ (d .if2 .left)))
 
 pub found-spec : {M : Type 1} → statement M
-found-spec = tie.close (tie.spec returns audit-requires of-audited-requires returns-2)
+found-spec = tie.close (tie.spec returns slice-aggregate-audit audit-requires of-audited-requires returns-2)

@@ -7,14 +7,11 @@ use Rattle.archive.proofs.printing.report.Tie as tie
 found-requires : tie.Need-found-requires
 found-requires c κs = search needs
 
-write-report-requires : tie.Need-write-report-requires
-write-report-requires c κs = search needs
-
-same-length : tie.Need-same-length
-same-length c = search needs
+report-line-requires : tie.Need-report-line-requires
+report-line-requires c κs = search needs
 
 returns : tie.Need-returns
-returns c = rw (← c .before .before .before .before .found .ensures) (c .before .before .write-report .ensures)
+returns c = rw (← c .before .found .ensures) (c .report-line .ensures)
 
 pub report-spec : {M : Type 1} → statement M
-report-spec = tie.close (tie.spec found-requires write-report-requires same-length returns)
+report-spec = tie.close (tie.spec found-requires report-line-requires returns)
