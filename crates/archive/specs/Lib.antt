@@ -1,7 +1,7 @@
--- What the contracts of this crate, and of those above it, cite.
+-- What the contracts of this crate, and of those above it, cite; what is proved of it; and, in `inside`, what only internal functions cite.
 pub mod File
 pub mod Audit
-pub mod Turns
 pub mod Archive
 pub mod Report
 pub mod Theorems
+pub mod inside
