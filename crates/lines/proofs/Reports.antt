@@ -2,22 +2,23 @@
 -- Assumes nothing.
 use mathlib.Core.Path.{_≡_, ap}
 use mathlib.Core.List.{List, [], _∷_, _++_, map}
-use Prim.Native.Nat.{ℕ, suc, _+_, _*_, _≤_, _<_, _^_}
+use Prim.Native.Nat.{ℕ, suc, _+_, _≤_, _<_, _^_}
 use native.Mathlib.Omega.{arith}
 use lib.ListN.{length, getD, replicate, length-append, length-replicate}
 use Rattle.lines.specs.Number.{decimal}
 use Rattle.lines.specs.Line.{afterCommas, textOf}
+use Rattle.lines.specs.Parts.{mostWidth, mostBytes}
 use Rattle.lines.specs.Report.{longestLine, outputOf}
 use Rattle.lines.specs.declared.report.OutputLine.{OutputLine}
 use Rattle.lines.proofs.Listing.{width-small}
 use Rattle.lines.proofs.Puts.{length-putAt}
 
 -- numbers of 64 bits, each after a comma
-fields-within : (ns : List ℕ) → ((i : ℕ) → getD ns i 0 < 2 ^ 64) → length (afterCommas (map decimal ns)) ≤ 21 * length ns
+fields-within : (ns : List ℕ) → ((i : ℕ) → getD ns i 0 < 2 ^ 64) → length (afterCommas (map decimal ns)) ≤ mostBytes (length ns)
 unfolding afterCommas
 fields-within [] h = omega arith
 fields-within (n ∷ ns) h =
-    let w : length (decimal n) ≤ 20 = width-small n (h 0) in
+    let w : length (decimal n) ≤ mostWidth = width-small n (h 0) in
     let l = length-append (decimal n) (afterCommas (map decimal ns)) in
     omega (arith, w, l, fields-within ns (λ i. h (suc i)))
 

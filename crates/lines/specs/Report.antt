@@ -3,16 +3,16 @@
 use Prim.Native.Nat.{ℕ, _+_, _*_}
 use mathlib.Core.List.{List, [], _∷_}
 use lib.ListN.{length, replicate}
+use Rattle.lines.specs.Bytes.{letterR, letterX}
 use Rattle.lines.specs.Line.{textOf}
 use Rattle.lines.specs.Writing.{putAt}
 use Rattle.lines.specs.declared.report.OutputLine.{OutputLine}
 use Rattle.lines.specs.declared.report.Report.{Report}
 use Rattle.lines.specs.declared.report.Report.the-variants as R
 
--- 82 is the letter R and 88 the letter X
 unfoldable pub reportText : Report → List ℕ
-reportText (R.EndState serial accepted refused register volume) = textOf (82 ∷ []) (serial ∷ accepted ∷ refused ∷ register ∷ volume ∷ [])
-reportText (R.Refusal number line) = textOf (88 ∷ []) (number ∷ line ∷ [])
+reportText (R.EndState serial accepted refused register volume) = textOf (letterR ∷ []) (serial ∷ accepted ∷ refused ∷ register ∷ volume ∷ [])
+reportText (R.Refusal number line) = textOf (letterX ∷ []) (number ∷ line ∷ [])
 
 -- the bytes of the longest output line: a letter, five numbers of 64 bits, each a comma and at most 20 digits, and the line feed
 abbrev pub longestLine : ℕ
