@@ -1,5 +1,5 @@
 -- Laws and theorems about the audit.
-pub mod RoundTrip
+pub mod OneLine
 pub mod Bodies
 pub mod Files
 pub mod Stops
@@ -7,7 +7,6 @@ pub mod Acceptance
 pub mod Readings
 pub mod Refusing
 pub mod Loop
-pub mod OneLine
 pub mod Nothing
 pub mod Turning
 pub mod Starting

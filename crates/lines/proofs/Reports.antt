@@ -1,13 +1,13 @@
 -- The output line is never longer than the bytes that it has.
 -- Assumes nothing.
 use mathlib.Core.Path.{_≡_, ap}
-use mathlib.Core.List.{List, [], _∷_, _++_, map}
-use Prim.Native.Nat.{ℕ, suc, _+_, _≤_, _<_, _^_}
+use mathlib.Core.List.{List, [], _∷_, map}
+use Prim.Native.Nat.{ℕ, suc, _≤_, _<_, _^_}
 use native.Mathlib.Omega.{arith}
 use lib.ListN.{length, getD, replicate, length-append, length-replicate}
 use Rattle.lines.specs.Number.{decimal}
 use Rattle.lines.specs.Line.{afterCommas, textOf}
-use Rattle.lines.specs.Parts.{mostWidth, mostBytes}
+use Rattle.lines.specs.inside.Parts.{mostWidth, mostBytes}
 use Rattle.lines.specs.Report.{longestLine, outputOf}
 use Rattle.lines.specs.declared.report.OutputLine.{OutputLine}
 use Rattle.lines.proofs.Listing.{width-small}

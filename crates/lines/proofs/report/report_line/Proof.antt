@@ -1,6 +1,5 @@
 -- `lines::report::report_line` meets its contract: each case by the text of its letter and numbers.
 -- Assumes nothing.
-use mathlib.Core.Path.{sym, ap, _∙_}
 use borrow.Author.Needs.{needs}
 use Rattle.lines.specs.Report.{reportText}
 use Rattle.lines.proofs.report.report_line.Statement.{statement}
