@@ -12,7 +12,7 @@ use borrow.Author.Tests.{eq-eqb, ne-eqb, eqb-true}
 use Rattle.quantity.proofs.Conditions.{both}
 use Rattle.lines.specs.Bytes.{comma}
 use Rattle.lines.specs.Number.{decimal, isDigit, areDigits, valueOf, isNumber, mostDigits}
-use Rattle.lines.specs.inside.Parts.{run, numberAt, oneMore, fieldAt}
+use Rattle.lines.specs.inside.Parts.{digitsAt, numberAt, oneMore, fieldAt}
 use Rattle.lines.specs.declared.number.Field.{Field}
 use Rattle.lines.specs.declared.number.Field.the-variants.{Number, Missing}
 use Rattle.lines.proofs.Decimals.{decimal-digits, decimal-number, value-decimal, number-decimal, number-small}
@@ -37,27 +37,27 @@ field-comma (b ∷ bs) h = simp (eq-eqb b comma h)
 -- ---- a number
 
 -- digits go on with the digits after them
-run-after : (d rest : List ℕ) → areDigits d ≡ true → run (d ++ rest) ≡ d ++ run rest
-unfolding areDigits run
-run-after [] rest p = refl
-run-after (b ∷ d) rest p =
+digitsAt-after : (d rest : List ℕ) → areDigits d ≡ true → digitsAt (d ++ rest) ≡ d ++ digitsAt rest
+unfolding areDigits digitsAt
+digitsAt-after [] rest p = refl
+digitsAt-after (b ∷ d) rest p =
     let h = both (isDigit b) (areDigits d) p in
-    simp (h .0, run-after d rest (h .1))
+    simp (h .0, digitsAt-after d rest (h .1))
 
-run-front : (bs : List ℕ) → bs ≡ run bs ++ drop (length (run bs)) bs
-unfolding run
-run-front [] = refl
-run-front (b ∷ bs) =
-    elim (isDigit b) as (λ t. isDigit b ≡ t → b ∷ bs ≡ run (b ∷ bs) ++ drop (length (run (b ∷ bs))) (b ∷ bs)) [
-      | true ↦ λ e. simp e (ap (λ (r : List ℕ). b ∷ r) (run-front bs))
+digitsAt-front : (bs : List ℕ) → bs ≡ digitsAt bs ++ drop (length (digitsAt bs)) bs
+unfolding digitsAt
+digitsAt-front [] = refl
+digitsAt-front (b ∷ bs) =
+    elim (isDigit b) as (λ t. isDigit b ≡ t → b ∷ bs ≡ digitsAt (b ∷ bs) ++ drop (length (digitsAt (b ∷ bs))) (b ∷ bs)) [
+      | true ↦ λ e. simp e (ap (λ (r : List ℕ). b ∷ r) (digitsAt-front bs))
       | false ↦ λ e. simp e
     ] refl
 
-number-back : (v : ℕ) (rest : List ℕ) → v < 10 ^ mostDigits → run rest ≡ [] → numberAt (decimal v ++ rest) ≡ Number v (length (decimal v))
+number-back : (v : ℕ) (rest : List ℕ) → v < 10 ^ mostDigits → digitsAt rest ≡ [] → numberAt (decimal v ++ rest) ≡ Number v (length (decimal v))
 unfolding numberAt
 number-back v rest h e =
-    let r : run (decimal v ++ rest) ≡ decimal v =
-    run-after (decimal v) rest (decimal-digits v) ∙ ap (λ (l : List ℕ). decimal v ++ l) e ∙ append-nil (decimal v) in
+    let r : digitsAt (decimal v ++ rest) ≡ decimal v =
+    digitsAt-after (decimal v) rest (decimal-digits v) ∙ ap (λ (l : List ℕ). decimal v ++ l) e ∙ append-nil (decimal v) in
     simp (r, decimal-number v h, value-decimal v)
 
 -- what `numberAt` answers
@@ -69,16 +69,16 @@ pub record IsNumber (bs : List ℕ) (v n : ℕ) : Type 0 where
 number-forth : (bs : List ℕ) (v n : ℕ) → numberAt bs ≡ Number v n → IsNumber bs v n
 unfolding numberAt
 number-forth bs v n h =
-    elim (isNumber (run bs)) as (λ t. isNumber (run bs) ≡ t → IsNumber bs v n) [
+    elim (isNumber (digitsAt bs)) as (λ t. isNumber (digitsAt bs) ≡ t → IsNumber bs v n) [
       | true ↦ λ t.
-          let g : Number (valueOf (run bs)) (length (run bs)) ≡ Number v n = simp t at h in
-          let a : valueOf (run bs) ≡ v = cc in
-          let l : length (run bs) ≡ n = cc in
-          let d : decimal v ≡ run bs = ap decimal (sym a) ∙ number-decimal (run bs) t in
+          let g : Number (valueOf (digitsAt bs)) (length (digitsAt bs)) ≡ Number v n = simp t at h in
+          let a : valueOf (digitsAt bs) ≡ v = cc in
+          let l : length (digitsAt bs) ≡ n = cc in
+          let d : decimal v ≡ digitsAt bs = ap decimal (sym a) ∙ number-decimal (digitsAt bs) t in
           record {
-            small = rw a at (number-small (run bs) t);
+            small = rw a at (number-small (digitsAt bs) t);
             counted = sym l ∙ ap length (sym d);
-            front = rw (d, ← l) (run-front bs);
+            front = rw (d, ← l) (digitsAt-front bs);
           }
       | false ↦ λ t.
           let g : Missing ≡ Number v n = simp t at h in
@@ -88,7 +88,7 @@ number-forth bs v n h =
 -- ---- a field
 
 -- LAW: what is written is read back
-pub field-back : (v : ℕ) (rest : List ℕ) → v < 10 ^ mostDigits → run rest ≡ [] → fieldAt (comma ∷ (decimal v ++ rest)) ≡ Number v (length (decimal v) + 1)
+pub field-back : (v : ℕ) (rest : List ℕ) → v < 10 ^ mostDigits → digitsAt rest ≡ [] → fieldAt (comma ∷ (decimal v ++ rest)) ≡ Number v (length (decimal v) + 1)
 unfolding oneMore
 field-back v rest h e = field-comma (comma ∷ (decimal v ++ rest)) refl ∙ rw (number-back v rest h e)
 

@@ -25,12 +25,12 @@ line-of (L.Card c) = refl
 line-of (L.Sample s) = refl
 line-of (L.End t) = refl
 
-pub counted : (line : Line) → length (numbersOf line) ≡ countOf (kindOf line)
+pub numbers-counted : (line : Line) → length (numbersOf line) ≡ countOf (kindOf line)
 unfolding kindOf numbersOf countOf fieldsOf
-counted L.Opening = refl
-counted (L.Card c) = refl
-counted (L.Sample s) = refl
-counted (L.End t) = refl
+numbers-counted L.Opening = refl
+numbers-counted (L.Card c) = refl
+numbers-counted (L.Sample s) = refl
+numbers-counted (L.End t) = refl
 
 pub kind-line : (k : Kind) (ns : List ℕ) → kindOf (lineOf k ns) ≡ k
 unfolding kindOf lineOf

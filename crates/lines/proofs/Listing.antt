@@ -49,20 +49,20 @@ unfolding afterCommas
 text-none ns i h = rw (drop-of-length-le ns h)
 
 -- sum bytes for the first i numbers
-pub record Counted (ns : List ℕ) (sum i : ℕ) : Type 0 where
+pub record Summed (ns : List ℕ) (sum i : ℕ) : Type 0 where
   pub few : i ≤ length ns
   pub small : sum ≤ mostBytes i
   pub left : sum + length (textFrom ns i) ≡ length (textFrom ns 0)
 
-pub counted-none : (ns : List ℕ) → Counted ns 0 0
-counted-none ns = record { few = omega arith; small = omega arith; left = omega arith }
+pub summed-none : (ns : List ℕ) → Summed ns 0 0
+summed-none ns = record { few = omega arith; small = omega arith; left = omega arith }
 
 pub width-small : (x : ℕ) → x < 2 ^ 64 → length (decimal x) ≤ mostWidth
 width-small x h = decimal-short x mostWidth (omega arith) (omega arith)
 
-module _ (ns : List ℕ) (sum i : ℕ) (c : Counted ns sum i) where
-  pub counted-more : i < length ns → getD ns i 0 < 2 ^ 64 → Counted ns (sum + (length (decimal (getD ns i 0)) + 1)) (i + 1)
-  counted-more h g =
+module _ (ns : List ℕ) (sum i : ℕ) (c : Summed ns sum i) where
+  pub summed-more : i < length ns → getD ns i 0 < 2 ^ 64 → Summed ns (sum + (length (decimal (getD ns i 0)) + 1)) (i + 1)
+  summed-more h g =
       let few : i ≤ length ns = c .few in
       let small : sum ≤ mostBytes i = c .small in
       let w : length (decimal (getD ns i 0)) ≤ mostWidth = width-small (getD ns i 0) g in
@@ -70,8 +70,8 @@ module _ (ns : List ℕ) (sum i : ℕ) (c : Counted ns sum i) where
       ap length (text-one ns i h) ∙ length-append (comma ∷ decimal (getD ns i 0)) (textFrom ns (i + 1)) in
       record { few = omega arith; small = omega arith; left = omega (arith, c .left) }
 
-  pub counted-all : length ns ≤ i → sum ≡ length (textFrom ns 0)
-  counted-all h = omega (arith, c .left, ap length (text-none ns i h))
+  pub summed-all : length ns ≤ i → sum ≡ length (textFrom ns 0)
+  summed-all h = omega (arith, c .left, ap length (text-none ns i h))
 
 -- ---- the text as it is put together
 

@@ -19,7 +19,7 @@ use Rattle.lines.specs.Bytes.{lineFeed, comma, letterC, letterE, letterS
 use Rattle.lines.specs.Number.{decimal, decimalBy}
 use Rattle.lines.specs.Line.{Kind, opening, sample, totals, kindOf, firstField, numbersOf, afterCommas, textOf, bytesOf, contentRows, openingLength, mostNumbers, countOf, cardOf, lineOf}
 use Rattle.lines.specs.Reading.{isSame, untilEnd, sizeOf, split, fieldsIn, firstIn, numbersIn, shapeRows, dueKind, lineIn, lineRows, readRows, answerOf, readOf}
-use Rattle.lines.specs.inside.Parts.{Lettered, NumbersRead, all, refused, FourLetter, fourKind}
+use Rattle.lines.specs.inside.Parts.{Lettered, NumbersRead, all-read, line-refused, FourLetter, fourKind}
 use Rattle.lines.specs.declared.fields.Numbers.{Numbers}
 use Rattle.lines.specs.declared.fields.Numbers.the-variants as A
 use Rattle.lines.specs.declared.line.Line.{Line}
@@ -161,13 +161,13 @@ module _ (bs : List ℕ) where
 
 pub numbers-all : (first bs out : List ℕ) (x : Numbers) (n : ℕ) → NumbersRead first bs out x → x ≡ A.All n
     → (firstOf (shapeRows first (length out) bs) ≡ Accepted) × ((out ≡ numbersIn bs) × (n ≡ sizeOf bs))
-numbers-all first bs out x n (all e f) g = (e, (f, cc g))
-numbers-all first bs out x n (refused r e) g = absurd (let z : _≡_ {A = ℕ} 0 1 = cc g in omega arith)
+numbers-all first bs out x n (all-read e f) g = (e, (f, cc g))
+numbers-all first bs out x n (line-refused r e) g = absurd (let z : _≡_ {A = ℕ} 0 1 = cc g in omega arith)
 
 pub numbers-refused : (first bs out : List ℕ) (x : Numbers) (r : ℕ) → NumbersRead first bs out x → x ≡ A.Refused r
     → firstOf (shapeRows first (length out) bs) ≡ Refused r
-numbers-refused first bs out x r (all e f) g = absurd (let z : _≡_ {A = ℕ} 0 1 = cc g in omega arith)
-numbers-refused first bs out x r (refused s e) g = let k : s ≡ r = cc g in rw k at e
+numbers-refused first bs out x r (all-read e f) g = absurd (let z : _≡_ {A = ℕ} 0 1 = cc g in omega arith)
+numbers-refused first bs out x r (line-refused s e) g = let k : s ≡ r = cc g in rw k at e
 
 module _ (bs out : List ℕ) (x : Numbers) where
   pub card-all : (n : ℕ) (c : Card) → NumbersRead (letterC ∷ []) bs out x → x ≡ A.All n → length out ≡ mostNumbers → fieldsOf c ≡ out

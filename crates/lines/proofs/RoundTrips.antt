@@ -32,7 +32,7 @@ use Rattle.lines.specs.declared.line.Front.the-variants as F
 use Rattle.lines.specs.declared.line.Written.the-variants as W
 use Rattle.lines.proofs.Same.{same-eq}
 use Rattle.lines.proofs.Shape.{lineBytes, numbers-back, size-back, shape-back, fields-back, shape-forth}
-use Rattle.lines.proofs.LineLaws.{line-of, counted, kind-line, numbers-line, plain}
+use Rattle.lines.proofs.LineLaws.{line-of, numbers-counted, kind-line, numbers-line, plain}
 use Rattle.lines.proofs.Openings.{opening-length}
 use Rattle.lines.proofs.ReaderRows.{opening-front, opening-sized, opening-read, card-read, four-read}
 use Rattle.lines.proofs.WriterRows.{next-place, unrefused, refused-place, by-text}
@@ -55,7 +55,7 @@ module _ (line : Line) (rest : List ℕ) where
 
   bytes-shape : someLong (numbersOf line) ≡ false → firstOf (shapeRows (firstField (kindOf line)) (countOf (kindOf line)) (bytesOf line ++ rest)) ≡ Accepted
   bytes-shape h =
-      rw (← counted line, line-bytes line rest) (shape-back (firstField (kindOf line)) (numbersOf line) rest (plain (kindOf line)) h)
+      rw (← numbers-counted line, line-bytes line rest) (shape-back (firstField (kindOf line)) (numbersOf line) rest (plain (kindOf line)) h)
 
 -- ---- what is written is read back
 

@@ -62,8 +62,8 @@ module _ (bs want : List ℕ) where
   begins-short h = same-short (take (length want) bs) want (omega (arith, length-take (length want) bs))
 
   -- the bytes from i on are to be compared
-  abbrev pub Compared : ℕ → Type 0
-  Compared i = begins bs want ≡ isSame (drop i (take (length want) bs)) (drop i want)
+  abbrev pub ToCompare : ℕ → Type 0
+  ToCompare i = begins bs want ≡ isSame (drop i (take (length want) bs)) (drop i want)
 
   module _ (h : length want ≤ length bs) (i : ℕ) where
     at-i : i < length want → getD (take (length want) bs) i 0 ≡ getD bs i 0
@@ -72,11 +72,11 @@ module _ (bs want : List ℕ) where
     long : length (take (length want) bs) ≡ length want
     long = length-take-le (length want) bs h
 
-    pub begins-more : i < length want → Compared i → getD bs i 0 ≡ getD want i 0 → Compared (i + 1)
+    pub begins-more : i < length want → ToCompare i → getD bs i 0 ≡ getD want i 0 → ToCompare (i + 1)
     begins-more k c e = c ∙ same-more (take (length want) bs) want i (omega (arith, long)) k (at-i k ∙ e)
 
-    pub begins-other : i < length want → Compared i → (getD bs i 0 ≡ getD want i 0 → ⊥) → begins bs want ≡ false
+    pub begins-other : i < length want → ToCompare i → (getD bs i 0 ≡ getD want i 0 → ⊥) → begins bs want ≡ false
     begins-other k c e = c ∙ same-other (take (length want) bs) want i (omega (arith, long)) k (λ g. e (sym (at-i k) ∙ g))
 
-    pub begins-all : length want ≤ i → Compared i → begins bs want ≡ true
+    pub begins-all : length want ≤ i → ToCompare i → begins bs want ≡ true
     begins-all k c = c ∙ same-all (take (length want) bs) want i (omega (arith, long)) k

@@ -19,13 +19,13 @@ use Rattle.lines.specs.declared.fields.Numbers.{Numbers}
 use Rattle.lines.specs.declared.fields.Numbers.the-variants as A
 
 -- the digits at the front of a text
-unfoldable pub run : List ℕ → List ℕ
-run [] = []
-run (b ∷ bs) = cond (isDigit b) (b ∷ run bs) []
+unfoldable pub digitsAt : List ℕ → List ℕ
+digitsAt [] = []
+digitsAt (b ∷ bs) = cond (isDigit b) (b ∷ digitsAt bs) []
 
 -- the number that the digits at the front of a text are, and how many they are
 unfoldable pub numberAt : List ℕ → Field
-numberAt bs = cond (isNumber (run bs)) (N.Number (valueOf (run bs)) (length (run bs))) N.Missing
+numberAt bs = cond (isNumber (digitsAt bs)) (N.Number (valueOf (digitsAt bs)) (length (digitsAt bs))) N.Missing
 
 -- a comma and the number after it
 unfoldable pub oneMore : Field → Field
@@ -38,8 +38,8 @@ fieldAt (b ∷ bs) = cond (eqb b comma) (oneMore (numberAt bs)) N.Missing
 
 -- the numbers of a line and the bytes that it takes, where no row of its shape refuses it; or the refusal
 pub data NumbersRead (first : List ℕ) (bs out : List ℕ) : Numbers → Type 0 where
-  all : firstOf (shapeRows first (length out) bs) ≡ O.Accepted → out ≡ numbersIn bs → NumbersRead first bs out (A.All (sizeOf bs))
-  refused : (r : ℕ) → firstOf (shapeRows first (length out) bs) ≡ O.Refused r → NumbersRead first bs out (A.Refused r)
+  all-read : firstOf (shapeRows first (length out) bs) ≡ O.Accepted → out ≡ numbersIn bs → NumbersRead first bs out (A.All (sizeOf bs))
+  line-refused : (r : ℕ) → firstOf (shapeRows first (length out) bs) ≡ O.Refused r → NumbersRead first bs out (A.Refused r)
 
 -- how many digits are looked at: one more than a number has
 abbrev pub lookedAt : ℕ
@@ -47,8 +47,8 @@ lookedAt = mostDigits + 1
 
 -- the digits at the front of a text that are looked at: n of them, which say value
 pub record Digits (bs : List ℕ) (value n : ℕ) : Type 0 where
-  pub counted : n ≡ length (take lookedAt (run bs))
-  pub says : value ≡ valueOf (take lookedAt (run bs))
+  pub counted : n ≡ length (take lookedAt (digitsAt bs))
+  pub says : value ≡ valueOf (take lookedAt (digitsAt bs))
 
 -- the last k digits of n
 unfoldable pub lastDigits : ℕ → ℕ → List ℕ

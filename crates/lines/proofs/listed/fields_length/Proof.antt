@@ -1,30 +1,30 @@
--- `lines::listed::fields_length` meets its contract. The loop's invariant is `Counted`.
+-- `lines::listed::fields_length` meets its contract. The loop's invariant is `Summed`.
 -- Assumes nothing.
 use Prim.Native.Nat.{_+_, _-_}
 use native.Mathlib.Omega.{arith}
 use lib.ListN.{length}
 use denote.Ref.{now}
 use borrow.Author.Needs.{needs}
-use Rattle.lines.proofs.Listing.{Counted, counted-none, counted-more, counted-all}
+use Rattle.lines.proofs.Listing.{Summed, summed-none, summed-more, summed-all}
 use Rattle.lines.proofs.listed.fields_length.Statement.{statement}
 use Rattle.lines.proofs.listed.fields_length.Tie as tie
 
 abbrev Inv-loop : tie.InvT-loop
-Inv-loop numbers sum₀ i₀ sum i = Counted numbers sum i
+Inv-loop numbers sum₀ i₀ sum i = Summed numbers sum i
 
 abbrev μ-loop : tie.MeasureT-loop
 μ-loop numbers sum₀ i₀ sum i = length numbers - i
 
 -- one number more
-more : (c : tie.After-width Inv-loop μ-loop) → Counted (now (c .before .before .before .before .before .args .numbers)) (c .before .before .before .loop .sum + (c .width .result + 1)) (c .before .before .before .loop .i + 1)
+more : (c : tie.After-width Inv-loop μ-loop) → Summed (now (c .before .before .before .before .before .args .numbers)) (c .before .before .before .loop .sum + (c .width .result + 1)) (c .before .before .before .loop .i + 1)
 more c =
     let l = c .before .before .before .loop in
     rw (c .width .ensures)
-    (counted-more (now (c .before .before .before .before .before .args .numbers)) (l .sum) (l .i) (l .inv) (c .before .before .loop-test .taken)
+    (summed-more (now (c .before .before .before .before .before .args .numbers)) (l .sum) (l .i) (l .inv) (c .before .before .loop-test .taken)
     (omega (arith, c .before .shared-slice-known2 .given (l .i))))
 
 loop-holds : tie.Need-loop-holds Inv-loop μ-loop
-loop-holds c = counted-none _
+loop-holds c = summed-none _
 
 mul-width : tie.Need-mul-width Inv-loop μ-loop
 mul-width c = omega arith
@@ -53,7 +53,7 @@ loop-again c = more c
 returns : tie.Need-returns Inv-loop μ-loop
 returns c =
     let l = c .before .loop in
-    (counted-all (now (c .before .before .before .args .numbers)) (l .sum) (l .i) (l .inv) (c .loop-test .left), omega (arith, l .inv .small, l .inv .few, c .before .before .before .pre))
+    (summed-all (now (c .before .before .before .args .numbers)) (l .sum) (l .i) (l .inv) (c .loop-test .left), omega (arith, l .inv .small, l .inv .few, c .before .before .before .pre))
 
 pub fields-length-spec : {M : Type 1} → statement M
 fields-length-spec =

@@ -1,4 +1,4 @@
--- `lines::number::read_number` meets its contract. The loop's invariant, `Passed`: the first n bytes are digits, which say value. The measure
+-- `lines::number::read_number` meets its contract. The loop's invariant, `PassedDigits`: the first n bytes are digits, which say value. The measure
 -- is what is left of the bytes that are looked at.
 -- Assumes nothing.
 use mathlib.Core.Path.{_≡_, sym, _∙_}
@@ -13,14 +13,14 @@ use denote.Ref.{now}
 use borrow.Author.Needs.{needs}
 use borrow.Author.Tests.{not-true, not-false}
 use Rattle.lines.specs.Number.{isDigit}
-use Rattle.lines.specs.inside.Parts.{run, lookedAt}
+use Rattle.lines.specs.inside.Parts.{digitsAt, lookedAt}
 use Rattle.lines.proofs.Decimals.{digit-low, digit-high}
-use Rattle.lines.proofs.Runs.{Passed, passed-none, passed-fits, passed-more, passed-end, ends-at, ends-with}
+use Rattle.lines.proofs.Runs.{PassedDigits, passed-none, passed-fits, passed-more, passed-end, ends-at, ends-with}
 use Rattle.lines.proofs.number.read_number.Statement.{statement}
 use Rattle.lines.proofs.number.read_number.Tie as tie
 
 abbrev Inv-loop : tie.InvT-loop
-Inv-loop part most value₀ n₀ value n = (n ≤ most) × Passed part value n
+Inv-loop part most value₀ n₀ value n = (n ≤ most) × PassedDigits part value n
 
 abbrev μ-loop : tie.MeasureT-loop
 μ-loop part most value₀ n₀ value n = most - n
@@ -86,7 +86,7 @@ loop-again c =
     (omega arith, rw (c .wide .ensures) (passed-more _ (l .value) (l .n) (l .inv .1) (omega arith) (digit (c .before))))
 
 -- the loop ran to its end: as many digits as are looked at, or the whole text
-ended : (c : tie.After-loop Inv-loop μ-loop) → (c .before .loop .n ≡ lookedAt) ⊎ (run (drop (c .before .loop .n) (now (c .before .before .before .before .args .part))) ≡ [])
+ended : (c : tie.After-loop Inv-loop μ-loop) → (c .before .loop .n ≡ lookedAt) ⊎ (digitsAt (drop (c .before .loop .n) (now (c .before .before .before .before .args .part))) ≡ [])
 ended c =
     let l = c .before .loop in
     let a = c .before .before .smaller .ensures in

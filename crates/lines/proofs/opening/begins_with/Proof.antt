@@ -5,12 +5,12 @@ use Prim.Native.Nat.{_-_, _≤_}
 use native.Mathlib.Omega.{arith}
 use lib.ListN.{length}
 use denote.Ref.{now}
-use Rattle.lines.proofs.Same.{Compared, begins-short, begins-more, begins-other, begins-all}
+use Rattle.lines.proofs.Same.{ToCompare, begins-short, begins-more, begins-other, begins-all}
 use Rattle.lines.proofs.opening.begins_with.Statement.{statement}
 use Rattle.lines.proofs.opening.begins_with.Tie as tie
 
 abbrev Inv-loop : tie.InvT-loop
-Inv-loop bytes want i₀ i = (i ≤ length want) × Compared bytes want i
+Inv-loop bytes want i₀ i = (i ≤ length want) × ToCompare bytes want i
 
 abbrev μ-loop : tie.MeasureT-loop
 μ-loop bytes want i₀ i = length want - i
