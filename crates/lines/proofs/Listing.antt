@@ -10,10 +10,10 @@ use lib.ListN.{length, getD, take, drop, set, length-append, length-set, drop-of
 use lib.Seq.{drop-cons, take-suc, take-suc-set, length-take-le}
 use borrow.Author.Tests.{le-leb, lt-leb}
 use Rattle.lines.specs.Bytes.{lineFeed, comma}
-use Rattle.lines.specs.Number.{decimal, isLong, mostDigits}
+use Rattle.lines.specs.Number.{decimal, isLong, mostDigits, mostWidth}
 use Rattle.lines.specs.Line.{kindOf, firstField, numbersOf, afterCommas, textOf, bytesOf, mostNumbers}
 use Rattle.lines.specs.Writing.{someLong, putAt}
-use Rattle.lines.specs.inside.Parts.{mostWidth, mostBytes, Lists}
+use Rattle.lines.specs.inside.Parts.{mostBytes, Lists}
 use Rattle.lines.specs.declared.line.Line.{Line}
 use Rattle.lines.specs.declared.listed.Listed.{Listed}
 use Rattle.lines.proofs.Decimals.{decimal-short}

@@ -5,10 +5,11 @@ use mathlib.Core.List.{List, [], _∷_, map}
 use Prim.Native.Nat.{ℕ, suc, _≤_, _<_, _^_}
 use native.Mathlib.Omega.{arith}
 use lib.ListN.{length, getD, replicate, length-append, length-replicate}
-use Rattle.lines.specs.Number.{decimal}
+use Rattle.lines.specs.Number.{decimal, mostWidth}
+use Rattle.lines.specs.Bytes.{lineFeed}
 use Rattle.lines.specs.Line.{afterCommas, textOf}
-use Rattle.lines.specs.inside.Parts.{mostWidth, mostBytes}
-use Rattle.lines.specs.Report.{longestLine, outputOf}
+use Rattle.lines.specs.inside.Parts.{mostBytes}
+use Rattle.lines.specs.Report.{mostReported, longestLine, outputOf}
 use Rattle.lines.specs.declared.report.OutputLine.{OutputLine}
 use Rattle.lines.proofs.Listing.{width-small}
 use Rattle.lines.proofs.Puts.{length-putAt}
@@ -22,9 +23,9 @@ fields-within (n ∷ ns) h =
     let l = length-append (decimal n) (afterCommas (map decimal ns)) in
     omega (arith, w, l, fields-within ns (λ i. h (suc i)))
 
-pub line-within : (letter : ℕ) (ns : List ℕ) → length ns ≤ 5 → ((i : ℕ) → getD ns i 0 < 2 ^ 64) → length (textOf (letter ∷ []) ns) ≤ longestLine
+pub line-within : (letter : ℕ) (ns : List ℕ) → length ns ≤ mostReported → ((i : ℕ) → getD ns i 0 < 2 ^ 64) → length (textOf (letter ∷ []) ns) ≤ longestLine
 unfolding textOf
-line-within letter ns few h = omega (arith, fields-within ns h, length-append (afterCommas (map decimal ns)) (10 ∷ []))
+line-within letter ns few h = omega (arith, fields-within ns h, length-append (afterCommas (map decimal ns)) (lineFeed ∷ []))
 
 -- so that the line ends within its bytes
 pub within-bytes : (l : OutputLine) (text : List ℕ) → l ≡ outputOf text → l .length ≤ longestLine → l .length ≤ length (l .bytes)

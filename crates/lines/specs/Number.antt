@@ -15,6 +15,10 @@ decimalBy (suc f) n = cond (ltb n 10) ((digitZero + n) ∷ []) (decimalBy f (n /
 unfoldable pub decimal : ℕ → List ℕ
 decimal n = decimalBy n n
 
+-- the most digits of a number of 64 bits, which is what the code can hold
+abbrev pub mostWidth : ℕ
+mostWidth = 20
+
 -- a byte 30 to 39 (hexadecimal)
 unfoldable pub isDigit : ℕ → Bool
 isDigit b = leb digitZero b && leb b digitNine

@@ -4,6 +4,7 @@ use Prim.Native.Nat.{ℕ, _+_, _*_}
 use mathlib.Core.List.{List, [], _∷_}
 use lib.ListN.{length, replicate}
 use Rattle.lines.specs.Bytes.{letterR, letterX}
+use Rattle.lines.specs.Number.{mostWidth}
 use Rattle.lines.specs.Line.{textOf}
 use Rattle.lines.specs.Writing.{putAt}
 use Rattle.lines.specs.declared.report.OutputLine.{OutputLine}
@@ -14,9 +15,13 @@ unfoldable pub reportText : Report → List ℕ
 reportText (R.EndState serial accepted refused register volume) = textOf (letterR ∷ []) (serial ∷ accepted ∷ refused ∷ register ∷ volume ∷ [])
 reportText (R.Refusal number line) = textOf (letterX ∷ []) (number ∷ line ∷ [])
 
+-- an output line has at most five numbers
+abbrev pub mostReported : ℕ
+mostReported = 5
+
 -- the bytes of the longest output line: a letter, five numbers of 64 bits, each a comma and at most 20 digits, and the line feed
 abbrev pub longestLine : ℕ
-longestLine = 1 + 5 * (1 + 20) + 1
+longestLine = 1 + mostReported * (1 + mostWidth) + 1
 
 -- a text at the front of that many bytes, the others being zero, and its length
 unfoldable pub outputOf : List ℕ → OutputLine

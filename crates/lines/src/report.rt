@@ -6,7 +6,7 @@ ghost use mathlib.Core.List.{_∷_, []};
 ghost use Prim.Native.Nat.{_≤_};
 ghost use lib.ListN.{length};
 ghost use Rattle.lines.specs.Line.{textOf};
-ghost use Rattle.lines.specs.Report.{reportText, longestLine, outputOf};
+ghost use Rattle.lines.specs.Report.{reportText, mostReported, longestLine, outputOf};
 
 // No output line is longer: a letter, five numbers, each a comma and at most 20 digits, and the line feed.
 const LONGEST: usize = 107;
@@ -51,7 +51,7 @@ pub fn report_line(report: Report) -> OutputLine
 
 // The output line of a letter and numbers.
 fn output_of(letter: u8, numbers: &[u64]) -> OutputLine
-    requires { ⌜ length (now numbers) ≤ 5 ⌝ }
+    requires { ⌜ length (now numbers) ≤ mostReported ⌝ }
     ensures { λ r. ⌜ r ≡ outputOf (textOf (letter ∷ []) (now (numbers .entry))) ⌝ }
     ensures { λ r. ⌜ r .length ≤ longestLine ⌝ }
 {

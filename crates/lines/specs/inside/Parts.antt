@@ -9,7 +9,7 @@ use lib.ListN.{length, getD, take}
 use Rattle.quantity.specs.Refusals.{firstOf}
 use Rattle.quantity.specs.declared.refusal.Outcome.the-variants as O
 use Rattle.lines.specs.Bytes.{comma, digitZero, letterE, letterS}
-use Rattle.lines.specs.Number.{isDigit, mostDigits, isNumber, valueOf}
+use Rattle.lines.specs.Number.{mostWidth, isDigit, mostDigits, isNumber, valueOf}
 use Rattle.lines.specs.Line.{Kind, sample, totals, mostNumbers}
 use Rattle.lines.specs.Reading.{shapeRows, numbersIn, sizeOf}
 use Rattle.lines.specs.declared.listed.Listed.{Listed}
@@ -54,10 +54,6 @@ pub record Digits (bs : List ℕ) (value n : ℕ) : Type 0 where
 unfoldable pub lastDigits : ℕ → ℕ → List ℕ
 lastDigits zero n = []
 lastDigits (suc k) n = lastDigits k (n / 10) ++ ((digitZero + n % 10) ∷ [])
-
--- the most digits of a number of 64 bits
-abbrev pub mostWidth : ℕ
-mostWidth = 20
 
 -- the most bytes of so many of them, each after a comma
 abbrev pub mostBytes : ℕ → ℕ
