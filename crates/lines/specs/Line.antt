@@ -3,7 +3,7 @@ use Prim.Native.Nat.{ℕ}
 use mathlib.Core.List.{List, [], _∷_, _++_, map}
 use lib.ListN.{getD}
 use Rattle.quantity.specs.Refusals.{Row}
-use Rattle.meter.specs.Card.{fieldsOf, cardRows}
+use Rattle.meter.specs.Card.{fieldsOf, cardFields, cardRows}
 use Rattle.meter.specs.declared.card.Card.{Card}
 use Rattle.meter.specs.declared.sample.Sample.{Sample}
 use Rattle.lines.specs.Bytes.{lineFeed, comma, letterC, letterE, letterS, archiveWord}
@@ -63,14 +63,14 @@ contentRows (L.End t) = []
 abbrev pub openingLength : ℕ
 openingLength = 14
 
--- "the card's twelve fields": no line has more numbers
+-- no line has more numbers than the card's
 abbrev pub mostNumbers : ℕ
-mostNumbers = 12
+mostNumbers = cardFields
 
 -- how many numbers a line of a kind has
 unfoldable pub countOf : Kind → ℕ
 countOf opening = 1
-countOf card = mostNumbers
+countOf card = cardFields
 countOf sample = 4
 countOf totals = 4
 

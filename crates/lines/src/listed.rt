@@ -2,6 +2,7 @@
 use crate::line::Line;
 use crate::number::LEAST_LONG;
 use crate::number::width;
+use meter::CARD_FIELDS;
 ghost use mathlib.Core.Path.{_≡_};
 ghost use mathlib.Core.List.{map};
 ghost use Prim.Native.Nat.{_≤_};
@@ -12,7 +13,7 @@ ghost use Rattle.lines.specs.Writing.{someLong};
 ghost use Rattle.lines.specs.inside.Parts.{Lists, mostBytes};
 
 // The card's line has the most numbers.
-pub(crate) const MOST_NUMBERS: usize = 12;
+pub(crate) const MOST_NUMBERS: usize = CARD_FIELDS;
 
 // A line's numbers: the first count of these.
 pub(crate) struct Listed {

@@ -26,6 +26,10 @@ fieldsOf c =
     ∷ c .ps
     ∷ []
 
+-- "the card's twelve fields"
+abbrev pub cardFields : ℕ
+cardFields = 12
+
 -- "10 serial outside 1..99999999; 11 place not 1 or 2; 12 sensor not 100, 500 or 1000; 13 mL per pulse outside 1..100000;
 -- 14 Θmin ≥ Θmax or Θmax > 180; 15 Δmin not 1, 2, 3; 16 Δmax < 10×Δmin or > 180; 17 not 1 ≤ qi ≤ qp ≤ qs ≤ 10^9;
 -- 18 Ps outside 1..10^9"

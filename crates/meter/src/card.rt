@@ -14,6 +14,9 @@ ghost use Rattle.quantity.specs.Units.{lastDegree, largestKelvins};
 ghost use Rattle.platinum.specs.Sensor.{sensorOf, isUnknown};
 ghost use Rattle.meter.specs.Card.{fieldsOf, cardRows};
 
+// How many fields a card has.
+pub const CARD_FIELDS: usize = 12;
+
 // What is fixed about a meter when it is built in, in document 01's order. Any content can stand here.
 pub struct Card {
     pub serial: u64,
@@ -32,7 +35,7 @@ pub struct Card {
 
 impl Card {
     // The one place that builds a card.
-    pub fn from_fields(f: [u64; 12]) -> Card
+    pub fn from_fields(f: [u64; CARD_FIELDS]) -> Card
         ensures { λ r. ⌜ fieldsOf r ≡ f ⌝ }
     {
         Card {

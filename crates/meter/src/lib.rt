@@ -4,6 +4,7 @@ mod sample;
 mod state;
 mod stepping;
 
+pub use card::CARD_FIELDS;
 pub use card::Card;
 pub use sample::Sample;
 pub use state::FreshMeter;

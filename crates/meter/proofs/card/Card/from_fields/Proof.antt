@@ -2,7 +2,7 @@
 -- Assumes nothing.
 use borrow.Author.Needs.{needs}
 use Rattle.meter.proofs.Elements.{all}
-use Rattle.meter.specs.Card.{fieldsOf}
+use Rattle.meter.specs.Card.{fieldsOf, cardFields}
 use Rattle.meter.proofs.card.Card.from_fields.Statement.{statement}
 use Rattle.meter.proofs.card.Card.from_fields.Tie as tie
 
@@ -44,7 +44,7 @@ array-read-t38 c = search needs
 
 returns : tie.Need-returns
 unfolding fieldsOf
-returns c = all (c .args .t1) 12 (search needs)
+returns c = all (c .args .t1) cardFields (search needs)
 
 pub from-fields-spec : {M : Type 1} → statement M
 from-fields-spec =
