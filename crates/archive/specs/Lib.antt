@@ -1,4 +1,4 @@
--- What the contracts of this crate, and of those above it, cite; what is proved of it; and, in `inside`, what only internal functions cite.
+-- What the contracts of this crate, and of those above it, cite; the statements of its theorems; and, apart, what only its inside cites.
 pub mod File
 pub mod Audit
 pub mod Archive

@@ -1,4 +1,4 @@
--- What the audit program prints about its input, document 01, "Edges" and the row "Program": "68 input over 65536 bytes, before all else,
+-- What the audit program prints about its input, document 01, "Edges to try" and the row "Program": "68 input over 65536 bytes, before all else,
 -- shown as line 0".
 use Prim.Native.Nat.{ℕ}
 use mathlib.Core.Bool.{cond, _||_}

@@ -1,11 +1,11 @@
-// The audit's output line, for the program (document 01, "Edges", and the row "Program").
+// The audit's output line, for the program (document 01, "Edges to try", and the row "Program").
 use crate::answer::Audited;
 use crate::auditing::audit;
 use lines::OutputLine;
 use lines::Report;
 ghost use mathlib.Core.Path.{_≡_};
 ghost use Prim.Native.Nat.{_≤_};
-ghost use Rattle.lines.specs.Report.{reportText, longestLine, outputOf};
+ghost use Rattle.lines.specs.Report.{reportText, longestOutput, outputOf};
 ghost use Rattle.archive.specs.Report.{ofAudited, reportIn};
 
 // "68 input over 65536 bytes": the audit program's limit. It needs a space of one byte more, to tell.
@@ -15,7 +15,7 @@ pub const AUDIT_LIMIT: usize = 65536;
 // than limit or fills the space.
 pub fn report(space: &[u8], used: usize, limit: usize) -> OutputLine
     ensures { λ r. ⌜ r ≡ outputOf (reportText (reportIn limit (now (space .entry)) used)) ⌝ }
-    ensures { λ r. ⌜ r .length ≤ longestLine ⌝ }
+    ensures { λ r. ⌜ r .length ≤ longestOutput ⌝ }
 {
     lines::report_line(found(space, used, limit))
 }

@@ -1,4 +1,4 @@
-// The program `audit`: reads an archive on standard input and prints the audit's line (document 01, "Edges").
+// The program `audit`: reads an archive on standard input and prints the audit's line (document 01, "Edges to try").
 mod input;
 
 use archive::AUDIT_LIMIT;
@@ -8,7 +8,7 @@ use lines::OutputLine;
 ghost use mathlib.Core.Path.{_≡_};
 ghost use Prim.Native.Nat.{_≤_, _<_};
 ghost use lib.ListN.{length, take};
-ghost use Rattle.lines.specs.Report.{reportText, longestLine, outputOf};
+ghost use Rattle.lines.specs.Report.{reportText, longestOutput, outputOf};
 ghost use Rattle.archive.specs.Report.{auditLimit, reportOf};
 
 // "68 input over 65536 bytes": one byte more than that is read, to tell. After a failed read nothing is printed.
@@ -27,7 +27,7 @@ fn main() {
 fn answer(space: &[u8], used: usize) -> OutputLine
     requires { ⌜ (auditLimit < length (now space)) × (used ≤ length (now space)) ⌝ }
     ensures { λ r. ⌜ r ≡ outputOf (reportText (reportOf auditLimit (take used (now (space .entry))))) ⌝ }
-    ensures { λ r. ⌜ r .length ≤ longestLine ⌝ }
+    ensures { λ r. ⌜ r .length ≤ longestOutput ⌝ }
 {
     archive::report(space, used, AUDIT_LIMIT)
 }

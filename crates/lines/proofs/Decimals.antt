@@ -12,7 +12,7 @@ use borrow.Author.Tests.{ltb-true, ltb-false, leb-true, eqb-false, lt-ltb, le-lt
 use Rattle.quantity.proofs.Conditions.{both}
 use Rattle.lines.specs.Bytes.{digitZero, digitNine}
 use Rattle.lines.specs.Number.{decimalBy, decimal, isDigit, areDigits, valueOf, isNumber, mostDigits}
-use Rattle.lines.specs.Theorems.{DecimalNumber, NumberDecimal, ValueDecimal}
+use Rattle.lines.specs.Theorems.{DecimalIsNumber, NumberDecimal, ValueDecimal}
 
 -- ---- digit by digit
 
@@ -170,9 +170,9 @@ decimal-lead = decimal-ind (λ n. 1 ≤ n → getD (decimal n) 0 0 ≡ digitZero
 
 -- ---- the only text
 
-pub decimal-number : DecimalNumber
+pub decimal-is-number : DecimalIsNumber
 unfolding isNumber
-decimal-number n h =
+decimal-is-number n h =
     let p : length (decimal n) ≤ mostDigits = decimal-short n mostDigits (omega arith) h in
     simp (decimal-digits n, le-leb 1 (length (decimal n)) (decimal-pos n), le-leb (length (decimal n)) mostDigits p)
     (elim (ltb n 10) as (λ b. ltb n 10 ≡ b → (eqb (length (decimal n)) 1 || not (eqb (getD (decimal n) 0 0) digitZero)) ≡ true) [

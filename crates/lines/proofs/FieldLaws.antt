@@ -15,7 +15,7 @@ use Rattle.lines.specs.Number.{decimal, isDigit, areDigits, valueOf, isN
 use Rattle.lines.specs.inside.Parts.{digitsAt, numberAt, oneMore, fieldAt}
 use Rattle.lines.specs.declared.number.Field.{Field}
 use Rattle.lines.specs.declared.number.Field.the-variants.{Number, Missing}
-use Rattle.lines.proofs.Decimals.{decimal-digits, decimal-number, value-decimal, number-decimal, number-small}
+use Rattle.lines.proofs.Decimals.{decimal-digits, decimal-is-number, value-decimal, number-decimal, number-small}
 
 -- ---- by the tests
 
@@ -58,7 +58,7 @@ unfolding numberAt
 number-back v rest h e =
     let r : digitsAt (decimal v ++ rest) ≡ decimal v =
     digitsAt-after (decimal v) rest (decimal-digits v) ∙ ap (λ (l : List ℕ). decimal v ++ l) e ∙ append-nil (decimal v) in
-    simp (r, decimal-number v h, value-decimal v)
+    simp (r, decimal-is-number v h, value-decimal v)
 
 -- what `numberAt` answers
 pub record IsNumber (bs : List ℕ) (v n : ℕ) : Type 0 where

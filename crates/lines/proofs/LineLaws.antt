@@ -7,7 +7,8 @@ use lib.ListN.{length}
 use Rattle.meter.specs.Card.{fieldsOf}
 use Rattle.meter.specs.declared.card.Card.{Card}
 use Rattle.meter.proofs.Elements.{all as all-elements}
-use Rattle.lines.specs.Line.{Kind, opening, card, sample, totals, kindOf, firstField, numbersOf, countOf, cardOf, lineOf}
+use Rattle.lines.specs.Line.{LineKind, opening, card, sample, totals, kindOf, firstField, numbersOf, countOf, cardOf, lineOf}
+use Rattle.lines.specs.Theorems.{LineOf, NumbersLine}
 use Rattle.lines.specs.declared.line.Line.{Line}
 use Rattle.lines.specs.declared.line.Line.the-variants as L
 use Rattle.lines.proofs.Shape.{Plain}
@@ -18,7 +19,7 @@ unfolding cardOf fieldsOf
 card-of c = refl
 
 -- LAW: the line of a line's kind and numbers is that line
-pub line-of : (line : Line) → lineOf (kindOf line) (numbersOf line) ≡ line
+pub line-of : LineOf
 unfolding lineOf kindOf numbersOf cardOf fieldsOf
 line-of L.Opening = refl
 line-of (L.Card c) = refl
@@ -32,7 +33,7 @@ numbers-counted (L.Card c) = refl
 numbers-counted (L.Sample s) = refl
 numbers-counted (L.End t) = refl
 
-pub kind-line : (k : Kind) (ns : List ℕ) → kindOf (lineOf k ns) ≡ k
+pub kind-line : (k : LineKind) (ns : List ℕ) → kindOf (lineOf k ns) ≡ k
 unfolding kindOf lineOf
 kind-line opening ns = refl
 kind-line card ns = refl
@@ -40,14 +41,14 @@ kind-line sample ns = refl
 kind-line totals ns = refl
 
 -- LAW: the numbers of the line of a kind are those that it was made of. The opening's is fixed.
-pub numbers-line : (k : Kind) (ns : List ℕ) → (k ≡ opening → ns ≡ 1 ∷ []) → length ns ≡ countOf k → numbersOf (lineOf k ns) ≡ ns
+pub numbers-line : NumbersLine
 unfolding numbersOf lineOf countOf cardOf fieldsOf
 numbers-line opening ns h e = sym (h refl)
 numbers-line card ns h e = all-elements ns (countOf card) e
 numbers-line sample ns h e = all-elements ns (countOf sample) e
 numbers-line totals ns h e = all-elements ns (countOf totals) e
 
-pub plain : (k : Kind) → Plain (firstField k)
+pub plain : (k : LineKind) → Plain (firstField k)
 unfolding firstField lacks
 plain opening = record { no-comma = refl; no-end = refl }
 plain card = record { no-comma = refl; no-end = refl }

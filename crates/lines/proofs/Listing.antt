@@ -10,10 +10,10 @@ use lib.ListN.{length, getD, take, drop, set, length-append, length-set, drop-of
 use lib.Seq.{drop-cons, take-suc, take-suc-set, length-take-le}
 use borrow.Author.Tests.{le-leb, lt-leb}
 use Rattle.lines.specs.Bytes.{lineFeed, comma}
-use Rattle.lines.specs.Number.{decimal, isLong, mostDigits, mostWidth}
-use Rattle.lines.specs.Line.{kindOf, firstField, numbersOf, afterCommas, textOf, bytesOf, mostNumbers}
+use Rattle.lines.specs.Number.{decimal, isLong, mostDigits, mostDigits64}
+use Rattle.lines.specs.Line.{kindOf, firstField, numbersOf, afterCommas, textOf, bytesOf}
 use Rattle.lines.specs.Writing.{someLong, putAt}
-use Rattle.lines.specs.inside.Parts.{mostBytes, Lists}
+use Rattle.lines.specs.inside.Parts.{mostBytes, AreListed, mostNumbers}
 use Rattle.lines.specs.declared.line.Line.{Line}
 use Rattle.lines.specs.declared.listed.Listed.{Listed}
 use Rattle.lines.proofs.Decimals.{decimal-short}
@@ -57,15 +57,15 @@ pub record Summed (ns : List ℕ) (sum i : ℕ) : Type 0 where
 pub summed-none : (ns : List ℕ) → Summed ns 0 0
 summed-none ns = record { few = omega arith; small = omega arith; left = omega arith }
 
-pub width-small : (x : ℕ) → x < 2 ^ 64 → length (decimal x) ≤ mostWidth
-width-small x h = decimal-short x mostWidth (omega arith) (omega arith)
+pub width-small : (x : ℕ) → x < 2 ^ 64 → length (decimal x) ≤ mostDigits64
+width-small x h = decimal-short x mostDigits64 (omega arith) (omega arith)
 
 module _ (ns : List ℕ) (sum i : ℕ) (c : Summed ns sum i) where
   pub summed-more : i < length ns → getD ns i 0 < 2 ^ 64 → Summed ns (sum + (length (decimal (getD ns i 0)) + 1)) (i + 1)
   summed-more h g =
       let few : i ≤ length ns = c .few in
       let small : sum ≤ mostBytes i = c .small in
-      let w : length (decimal (getD ns i 0)) ≤ mostWidth = width-small (getD ns i 0) g in
+      let w : length (decimal (getD ns i 0)) ≤ mostDigits64 = width-small (getD ns i 0) g in
       let l : length (textFrom ns i) ≡ suc (length (decimal (getD ns i 0))) + length (textFrom ns (i + 1)) =
       ap length (text-one ns i h) ∙ length-append (comma ∷ decimal (getD ns i 0)) (textFrom ns (i + 1)) in
       record { few = omega arith; small = omega arith; left = omega (arith, c .left) }
@@ -140,7 +140,7 @@ pub list-more : (ns all : List ℕ) (i : ℕ) → i < length ns → i < length a
 list-more ns all i h k e =
     rw add-one (take-suc-set all i (getD ns i 0) k ∙ ap (λ (l : List ℕ). l ++ (getD ns i 0 ∷ [])) e ∙ sym (take-suc ns i 0 h))
 
-module _ (line : Line) (l : Listed) (is : Lists (numbersOf line) l) where
+module _ (line : Line) (l : Listed) (is : AreListed (numbersOf line) l) where
   pub listed-length : l .count ≡ length (take (l .count) (l .numbers))
   listed-length = sym (length-take-le (l .count) (l .numbers) (omega (arith, is .few, is .long)))
 

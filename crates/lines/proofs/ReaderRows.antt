@@ -17,9 +17,9 @@ use Rattle.meter.specs.Card.{fieldsOf, cardRows}
 use Rattle.meter.specs.declared.card.Card.{Card}
 use Rattle.lines.specs.Bytes.{lineFeed, comma, letterC, letterE, letterS}
 use Rattle.lines.specs.Number.{decimal, decimalBy}
-use Rattle.lines.specs.Line.{Kind, opening, sample, totals, kindOf, firstField, numbersOf, afterCommas, textOf, bytesOf, contentRows, openingLength, mostNumbers, countOf, cardOf, lineOf}
+use Rattle.lines.specs.Line.{LineKind, opening, sample, totals, kindOf, firstField, numbersOf, afterCommas, textOf, bytesOf, contentRows, openingLength, countOf, cardOf, lineOf}
 use Rattle.lines.specs.Reading.{isSame, untilEnd, sizeOf, split, fieldsIn, firstIn, numbersIn, shapeRows, dueKind, lineIn, lineRows, readRows, answerOf, readOf}
-use Rattle.lines.specs.inside.Parts.{Lettered, NumbersRead, all-read, line-refused, FourLetter, fourKind}
+use Rattle.lines.specs.inside.Parts.{Lettered, NumbersRead, all-read, line-refused, FourLetter, fourKind, mostNumbers}
 use Rattle.lines.specs.declared.fields.Numbers.{Numbers}
 use Rattle.lines.specs.declared.fields.Numbers.the-variants as A
 use Rattle.lines.specs.declared.line.Line.{Line}
@@ -108,7 +108,7 @@ module _ (bs : List ℕ) where
 -- ---- a sample's line, or the last
 
 -- a kind with no rows of its own
-abbrev NoContent : Kind → Type 0
+abbrev NoContent : LineKind → Type 0
 NoContent k = (ns : List ℕ) → contentRows (lineOf k ns) ≡ []
 
 sample-content : NoContent sample
@@ -120,7 +120,7 @@ unfolding contentRows lineOf
 totals-content ns = refl
 
 module _ (bs : List ℕ) where
-  by-kind : (k : Kind) → dueKind M.SampleOrEnd bs ≡ k → NoContent k
+  by-kind : (k : LineKind) → dueKind M.SampleOrEnd bs ≡ k → NoContent k
       → readOf M.SampleOrEnd bs ≡ answerOf (lineOf k (numbersIn bs)) (sizeOf bs) (firstOf (shapeRows (firstField k) (countOf k) bs))
   unfolding readOf lineIn readRows lineRows
   by-kind k e none = rw (e, none (numbersIn bs), append-nil)

@@ -18,7 +18,7 @@ use Rattle.meter.specs.Card.{cardRows}
 use Rattle.meter.specs.declared.card.Card.{Card}
 use Rattle.lines.specs.Bytes.{lineFeed, letterC, letterE, letterH, letterS}
 use Rattle.lines.specs.Number.{decimal, isLong}
-use Rattle.lines.specs.Line.{Kind, opening, card, sample, totals, kindOf, firstField, numbersOf, afterCommas, textOf, bytesOf, contentRows, countOf, lineOf, openingLength}
+use Rattle.lines.specs.Line.{LineKind, opening, card, sample, totals, kindOf, firstField, numbersOf, afterCommas, textOf, bytesOf, contentRows, countOf, lineOf, openingLength}
 use Rattle.lines.specs.Reading.{isSame, sizeOf, fieldsIn, firstIn, numbersIn, shapeRows, dueKind, lineIn, lineRows, readRows, answerOf, readOf, restOf}
 use Rattle.lines.specs.Writing.{someLong, writeRows, placeOf, writtenOf, putAt, bufferAfter}
 use Rattle.lines.specs.inside.Parts.{FourLetter, fourKind}
@@ -35,7 +35,7 @@ use Rattle.lines.proofs.Shape.{lineBytes, numbers-back, size-back, shap
 use Rattle.lines.proofs.LineLaws.{line-of, numbers-counted, kind-line, numbers-line, plain}
 use Rattle.lines.proofs.Openings.{opening-length}
 use Rattle.lines.proofs.ReaderRows.{opening-front, opening-sized, opening-read, card-read, four-read}
-use Rattle.lines.proofs.WriterRows.{next-place, unrefused, refused-place, by-text}
+use Rattle.lines.proofs.WriterRows.{next-place, unrefused, refused-place, by-text, writable-exactly}
 
 -- ---- the bytes of a line
 
@@ -142,22 +142,21 @@ refused-place-or-room line h g size at r e =
     room false c = let f : W.Next (at + length (bytesOf line)) ≡ W.Refused r = rw c at e in absurd (let z : _≡_ {A = ℕ} 0 1 = cc f in omega arith)
 
 -- the line of a kind and numbers that the bytes are
-module _ (may : MayCome) (bs : List ℕ) (k : Kind) (ns : List ℕ) where
+module _ (may : MayCome) (bs : List ℕ) (k : LineKind) (ns : List ℕ) where
   writes-kind : toldOf (lineOf k ns) ≡ may → numbersOf (lineOf k ns) ≡ ns → bs ≡ lineBytes (firstField k) ns (drop (sizeOf bs) bs)
       → someLong ns ≡ false → NoneApplies (contentRows (lineOf k ns)) → WritesBack may bs (lineOf k ns) (sizeOf bs)
   unfolding restOf
   writes-kind t e b h g =
       let same : bytesOf (lineOf k ns) ++ drop (sizeOf bs) bs ≡ bs =
       line-bytes (lineOf k ns) (drop (sizeOf bs) bs)
-      ∙ ap (λ (j : Kind). lineBytes (firstField j) (numbersOf (lineOf k ns)) (drop (sizeOf bs) bs)) (kind-line k ns)
+      ∙ ap (λ (j : LineKind). lineBytes (firstField j) (numbersOf (lineOf k ns)) (drop (sizeOf bs) bs)) (kind-line k ns)
       ∙ ap (λ (l : List ℕ). lineBytes (firstField k) l (drop (sizeOf bs) bs)) e
       ∙ sym b in
       record {
         kind = t;
         bytes = same;
-        size = ap sizeOf (sym same) ∙ bytes-size (lineOf k ns) (drop (sizeOf bs) bs);
-        content = g;
-        short = ap someLong e ∙ h;
+        takes = ap sizeOf (sym same) ∙ bytes-size (lineOf k ns) (drop (sizeOf bs) bs);
+        writable = writable-exactly (lineOf k ns) .1 (g, ap someLong e ∙ h);
         refused-only = refused-place-or-room (lineOf k ns) (ap someLong e ∙ h) g;
       }
 
@@ -168,7 +167,7 @@ writes-opening bs e =
     writes-kind M.Opening bs opening (1 ∷ []) refl refl (rw (opening-sized bs h) (opening-front bs h)) refl tt
 
 -- a line of a kind that is due
-writes-due : (may : MayCome) (bs : List ℕ) (k : Kind) → (k ≡ opening → ⊥) → toldOf (lineOf k (numbersIn bs)) ≡ may
+writes-due : (may : MayCome) (bs : List ℕ) (k : LineKind) → (k ≡ opening → ⊥) → toldOf (lineOf k (numbersIn bs)) ≡ may
     → firstOf (lineRows k bs) ≡ Accepted → WritesBack may bs (lineOf k (numbersIn bs)) (sizeOf bs)
 unfolding lineRows
 writes-due may bs k other t e =
@@ -203,15 +202,15 @@ pub read-within : ReadWithin
 unfolding restOf
 read-within may bs line n e =
     let w = read-then-written may bs line n e in
-    (omega (arith, w .size, some-bytes line), omega (arith, w .size, sym (length-append (bytesOf line) (drop n bs)) ∙ ap length (w .bytes)))
+    (omega (arith, w .takes, some-bytes line), omega (arith, w .takes, sym (length-append (bytesOf line) (drop n bs)) ∙ ap length (w .bytes)))
 
 -- ---- a line's bytes are its own
 
 -- the kind that a first field names
-named : List ℕ → Kind
+named : List ℕ → LineKind
 named f = cond (eqb (getD f 0 0) letterH) opening (cond (eqb (getD f 0 0) letterC) card (cond (eqb (getD f 0 0) letterS) sample totals))
 
-kind-named : (k : Kind) → named (firstField k) ≡ k
+kind-named : (k : LineKind) → named (firstField k) ≡ k
 unfolding named firstField
 kind-named opening = refl
 kind-named card = refl
@@ -225,7 +224,7 @@ one-line k l s t e =
     let firsts : firstField (kindOf k) ≡ firstField (kindOf l) = ap (λ (fs : List (List ℕ)). getD fs 0 []) fields in
     let kinds : kindOf k ≡ kindOf l = sym (kind-named (kindOf k)) ∙ ap named firsts ∙ kind-named (kindOf l) in
     let numbers : numbersOf k ≡ numbersOf l = sym (bytes-numbers k s) ∙ ap numbersIn e ∙ bytes-numbers l t in
-    let lines : k ≡ l = sym (line-of k) ∙ ap (λ (j : Kind). lineOf j (numbersOf k)) kinds ∙ ap (lineOf (kindOf l)) numbers ∙ line-of l in
+    let lines : k ≡ l = sym (line-of k) ∙ ap (λ (j : LineKind). lineOf j (numbersOf k)) kinds ∙ ap (lineOf (kindOf l)) numbers ∙ line-of l in
     let rests : s ≡ t =
     sym (drop-append-seam (bytesOf k) s) ∙ ap (drop (length (bytesOf k))) e ∙ ap (λ (j : Line). drop (length (bytesOf j)) (bytesOf l ++ t)) lines ∙ drop-append-seam (bytesOf l) t in
     (lines, rests)

@@ -17,7 +17,7 @@ use Rattle.lines.specs.Number.{decimal, isDigit, areDigits, isNumber, va
 use Rattle.lines.specs.Line.{afterCommas, textOf}
 use Rattle.lines.specs.Reading.{isSame, untilEnd, isEnded, sizeOf, fieldsIn, firstIn, othersIn, areNumbers, numbersIn, isMisshapen, shapeRows}
 use Rattle.lines.specs.Writing.{someLong}
-use Rattle.lines.proofs.Decimals.{true-both, decimal-digits, decimal-number, value-decimal, number-decimal, number-small}
+use Rattle.lines.proofs.Decimals.{true-both, decimal-digits, decimal-is-number, value-decimal, number-decimal, number-small}
 use Rattle.lines.proofs.Same.{same-refl, same-true}
 use Rattle.lines.proofs.Splitting.{lacks, EachLacks, lacks-append, lacks-commas, split-joined, until-end, is-ended, ended-bytes, joined-split}
 
@@ -53,7 +53,7 @@ unfolding someLong areNumbers
 decimals-numbers [] h = refl
 decimals-numbers (n ∷ ns) h =
     let q = neither (isLong n) (someLong ns) h in
-    true-both (isNumber (decimal n)) _ (decimal-number n (short n (q .0))) (decimals-numbers ns (q .1))
+    true-both (isNumber (decimal n)) _ (decimal-is-number n (short n (q .0))) (decimals-numbers ns (q .1))
 
 numbers-decimals : (fs : List (List ℕ)) → areNumbers fs ≡ true → map decimal (map valueOf fs) ≡ fs
 unfolding areNumbers

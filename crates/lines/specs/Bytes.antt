@@ -1,4 +1,4 @@
--- The bytes that lines are made of, document 01, "Archive text" and "Edges". A byte's number stands here only.
+-- The bytes that lines are made of, document 01, "Archive text" and "Edges to try". A byte's number stands here only.
 use Prim.Native.Nat.{ℕ}
 use mathlib.Core.List.{List, [], _∷_}
 

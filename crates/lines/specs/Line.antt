@@ -12,20 +12,20 @@ use Rattle.lines.specs.declared.line.Line.{Line}
 use Rattle.lines.specs.declared.line.Line.the-variants as L
 
 -- the kinds of line
-pub data Kind : Type 0 where
-  opening : Kind
-  card : Kind
-  sample : Kind
-  totals : Kind
+pub data LineKind : Type 0 where
+  opening : LineKind
+  card : LineKind
+  sample : LineKind
+  totals : LineKind
 
-unfoldable pub kindOf : Line → Kind
+unfoldable pub kindOf : Line → LineKind
 kindOf L.Opening = opening
 kindOf (L.Card c) = card
 kindOf (L.Sample s) = sample
 kindOf (L.End t) = totals
 
 -- a line's first field: HEATARCHIVE in the opening, and the letter C, S or E in the others
-unfoldable pub firstField : Kind → List ℕ
+unfoldable pub firstField : LineKind → List ℕ
 firstField opening = archiveWord
 firstField card = letterC ∷ []
 firstField sample = letterS ∷ []
@@ -63,18 +63,14 @@ contentRows (L.End t) = []
 abbrev pub openingLength : ℕ
 openingLength = 14
 
--- no line has more numbers than the card's
-abbrev pub mostNumbers : ℕ
-mostNumbers = cardFields
-
 -- how many numbers a line of a kind has
-unfoldable pub countOf : Kind → ℕ
+unfoldable pub countOf : LineKind → ℕ
 countOf opening = 1
 countOf card = cardFields
 countOf sample = 4
 countOf totals = 4
 
--- the line of a kind with given numbers, as many as it has; `line-of` and `numbers-line` of proofs/LineLaws.antt tie it to `numbersOf`
+-- the line of a kind with given numbers, as many as it has; `LineOf` and `NumbersLine` of specs/Theorems.antt tie it to `numbersOf`
 unfoldable pub cardOf : List ℕ → Card
 cardOf ns = record {
   serial = getD ns 0 0;
@@ -91,7 +87,7 @@ cardOf ns = record {
   ps = getD ns 11 0;
 }
 
-unfoldable pub lineOf : Kind → List ℕ → Line
+unfoldable pub lineOf : LineKind → List ℕ → Line
 lineOf opening ns = L.Opening
 lineOf card ns = L.Card (cardOf ns)
 lineOf sample ns =

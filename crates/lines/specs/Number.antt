@@ -16,8 +16,8 @@ unfoldable pub decimal : ℕ → List ℕ
 decimal n = decimalBy n n
 
 -- the most digits of a number of 64 bits, which is what the code can hold
-abbrev pub mostWidth : ℕ
-mostWidth = 20
+abbrev pub mostDigits64 : ℕ
+mostDigits64 = 20
 
 -- a byte 30 to 39 (hexadecimal)
 unfoldable pub isDigit : ℕ → Bool

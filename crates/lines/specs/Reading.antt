@@ -9,7 +9,7 @@ use Rattle.quantity.specs.declared.refusal.Outcome.{Outcome}
 use Rattle.quantity.specs.declared.refusal.Outcome.the-variants as O
 use Rattle.lines.specs.Bytes.{lineFeed, comma}
 use Rattle.lines.specs.Number.{isNumber, valueOf}
-use Rattle.lines.specs.Line.{Kind, opening, card, sample, totals, firstField, openingLength, countOf, lineOf, bytesOf, contentRows}
+use Rattle.lines.specs.Line.{LineKind, opening, card, sample, totals, firstField, openingLength, countOf, lineOf, bytesOf, contentRows}
 use Rattle.lines.specs.declared.line.Line.{Line}
 use Rattle.lines.specs.declared.line.Line.the-variants as L
 use Rattle.lines.specs.declared.line.MayCome.{MayCome}
@@ -72,7 +72,7 @@ unfoldable pub shapeRows : List ℕ → ℕ → List ℕ → List Row
 shapeRows first count bs = row 61 (isMisshapen first count bs) ∷ row 62 (not (areNumbers (othersIn bs))) ∷ []
 
 -- The kind of line that is due. Where S and E may come, the first field says which; one that is neither is 61's, since it is not S.
-unfoldable pub dueKind : MayCome → List ℕ → Kind
+unfoldable pub dueKind : MayCome → List ℕ → LineKind
 dueKind M.Opening bs = opening
 dueKind M.Card bs = card
 dueKind M.SampleOrEnd bs = cond (isSame (firstIn bs) (firstField totals)) totals sample
@@ -82,7 +82,7 @@ unfoldable pub lineIn : MayCome → List ℕ → Line
 lineIn may bs = lineOf (dueKind may bs) (numbersIn bs)
 
 -- "61 ..; 62 ..; then card numbers", where a line of a kind is due
-unfoldable pub lineRows : Kind → List ℕ → List Row
+unfoldable pub lineRows : LineKind → List ℕ → List Row
 lineRows k bs = shapeRows (firstField k) (countOf k) bs ++ contentRows (lineOf k (numbersIn bs))
 
 -- "60 opening" is anything but the opening's bytes

@@ -10,7 +10,7 @@ use Rattle.quantity.specs.declared.refusal.Outcome.the-variants as O
 use Rattle.meter.specs.Card.{cardRows}
 use Rattle.lines.specs.Line.{firstField, openingLength, countOf, cardOf, numbersOf, bytesOf, contentRows}
 use Rattle.lines.specs.Reading.{isSame, othersIn, numbersIn, areNumbers, isMisshapen, dueKind, readOf, restOf}
-use Rattle.lines.specs.Writing.{someLong, writtenOf}
+use Rattle.lines.specs.Writing.{writtenOf, Writable}
 use Rattle.lines.specs.declared.line.Line.{Line}
 use Rattle.lines.specs.declared.line.Line.the-variants as L
 use Rattle.lines.specs.declared.line.MayCome.{MayCome}
@@ -31,14 +31,13 @@ pub record ReadsBack (buf : List ℕ) (at : ℕ) (line : Line) (next : ℕ) : Ty
   pub answer : readOf (toldOf line) (drop at buf) ≡ F.Read line (next - at)
   pub rest : restOf (drop at buf) (readOf (toldOf line) (drop at buf)) ≡ drop next buf
 
--- Reading, then writing. Where the reader answered a line and a count of bytes, the line is of a kind that may come, its bytes are those, the
--- writer refuses neither its content nor its numbers, and so refuses it only for the buffer's sake.
+-- Reading, then writing. Where the reader answered a line and a count of bytes, the line is of a kind that may come, its bytes are those, and
+-- the writer can write it: it refuses it only for the buffer's sake.
 pub record WritesBack (may : MayCome) (bs : List ℕ) (line : Line) (n : ℕ) : Type 0 where
   pub kind : toldOf line ≡ may
   pub bytes : bytesOf line ++ restOf bs (F.Read line n) ≡ bs
-  pub size : n ≡ length (bytesOf line)
-  pub content : NoneApplies (contentRows line)
-  pub short : someLong (numbersOf line) ≡ false
+  pub takes : n ≡ length (bytesOf line)
+  pub writable : Writable line
   pub refused-only : (size at r : ℕ) → writtenOf size at line ≡ W.Refused r → (r ≡ 67) ⊎ (r ≡ 66)
 
 -- What a refusal of the reader says: its own condition holds, and none before it.

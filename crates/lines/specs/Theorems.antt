@@ -10,7 +10,7 @@ use Rattle.meter.specs.Card.{cardRows}
 use Rattle.meter.specs.declared.card.Card.{Card}
 use Rattle.lines.specs.Bytes.{lineFeed, comma, digitZero, archiveWord}
 use Rattle.lines.specs.Number.{decimal, valueOf, mostDigits, isNumber}
-use Rattle.lines.specs.Line.{sample, totals, firstField, numbersOf, bytesOf, contentRows, openingLength}
+use Rattle.lines.specs.Line.{LineKind, opening, sample, totals, kindOf, firstField, numbersOf, bytesOf, contentRows, openingLength, countOf, lineOf}
 use Rattle.lines.specs.Reading.{isSame, firstIn, dueKind, readOf}
 use Rattle.lines.specs.Writing.{someLong, writtenOf, Writable, bufferAfter}
 use Rattle.lines.specs.RoundTrip.{ReadsBack, WritesBack, Cause}
@@ -24,8 +24,8 @@ use Rattle.lines.specs.declared.line.Written.the-variants as W
 -- ---- numbers
 
 -- the text of a value of at most 18 digits is a number's
-abbrev pub DecimalNumber : Type 0
-DecimalNumber = (n : ℕ) → n < 10 ^ mostDigits → isNumber (decimal n) ≡ true
+abbrev pub DecimalIsNumber : Type 0
+DecimalIsNumber = (n : ℕ) → n < 10 ^ mostDigits → isNumber (decimal n) ≡ true
 
 -- a number's text is the text of what it says, so a value has no other
 abbrev pub NumberDecimal : Type 0
@@ -44,6 +44,13 @@ OpeningBytes = bytesOf L.Opening ≡ archiveWord ++ (comma ∷ (digitZero + 1) �
 -- and there are 14 of them
 abbrev pub OpeningLength : Type 0
 OpeningLength = length (bytesOf L.Opening) ≡ openingLength
+
+-- a line is that of its kind and its numbers, and its numbers are those that it was made of
+abbrev pub LineOf : Type 0
+LineOf = (line : Line) → lineOf (kindOf line) (numbersOf line) ≡ line
+
+abbrev pub NumbersLine : Type 0
+NumbersLine = (k : LineKind) (ns : List ℕ) → (k ≡ opening → ns ≡ 1 ∷ []) → length ns ≡ countOf k → numbersOf (lineOf k ns) ≡ ns
 
 -- bytes that begin with a line's bytes begin with no other line's; for any lines, also those that the writer refuses
 abbrev pub OneLine : Type 0

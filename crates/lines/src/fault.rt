@@ -4,9 +4,8 @@ ghost use mathlib.Core.Bool.{not, cond};
 ghost use mathlib.Core.List.{_∷_, []};
 ghost use Prim.Native.Nat.{_≤_};
 ghost use lib.ListN.{length};
-ghost use Rattle.lines.specs.Line.{mostNumbers};
 ghost use Rattle.lines.specs.Reading.{isSame, isEnded, fieldsIn, firstIn, isMisshapen};
-ghost use Rattle.lines.specs.inside.Parts.{Lettered};
+ghost use Rattle.lines.specs.inside.Parts.{Lettered, mostNumbers};
 
 // 61 for a line that has not its shape, and otherwise 62.
 pub(crate) fn fault_number(bytes: &[u8], letter: u8, count: usize) -> u64

@@ -8,8 +8,7 @@ ghost use Prim.Native.Nat.{_≤_};
 ghost use lib.Dec.{eqb};
 ghost use lib.ListN.{length, getD};
 ghost use Rattle.lines.specs.Bytes.{lineFeed};
-ghost use Rattle.lines.specs.Line.{mostNumbers};
-ghost use Rattle.lines.specs.inside.Parts.{Lettered, NumbersRead};
+ghost use Rattle.lines.specs.inside.Parts.{Lettered, NumbersRead, mostNumbers};
 
 // How many bytes the line takes whose numbers were read, or the refusal's number.
 pub(crate) enum Numbers {

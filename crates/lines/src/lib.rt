@@ -1,4 +1,4 @@
-// The archive's lines (document 01, "Archive text"): the writer and the reader of one line.
+// The archive's lines (document 01, "Archive text"): the writer and the reader of one line; and the audit program's output line.
 mod fault;
 mod fields;
 mod held;

@@ -8,9 +8,9 @@ ghost use mathlib.Core.List.{map};
 ghost use Prim.Native.Nat.{_≤_};
 ghost use lib.ListN.{length};
 ghost use Rattle.lines.specs.Number.{decimal};
-ghost use Rattle.lines.specs.Line.{kindOf, firstField, numbersOf, afterCommas, openingLength, mostNumbers};
+ghost use Rattle.lines.specs.Line.{kindOf, firstField, numbersOf, afterCommas, openingLength};
 ghost use Rattle.lines.specs.Writing.{someLong};
-ghost use Rattle.lines.specs.inside.Parts.{Lists, mostBytes};
+ghost use Rattle.lines.specs.inside.Parts.{AreListed, mostBytes, mostNumbers};
 
 // The card's line has the most numbers.
 pub(crate) const MOST_NUMBERS: usize = CARD_FIELDS;
@@ -22,7 +22,7 @@ pub(crate) struct Listed {
 }
 
 pub(crate) fn numbers_of(line: Line) -> Listed
-    ensures { λ r. ⌜ Lists (numbersOf line) r ⌝ }
+    ensures { λ r. ⌜ AreListed (numbersOf line) r ⌝ }
 {
     match line {
         Line::Opening => list(&[1]),
@@ -50,7 +50,7 @@ pub(crate) fn numbers_of(line: Line) -> Listed
 // The numbers, with zeros after them.
 fn list(numbers: &[u64]) -> Listed
     requires { ⌜ length (now numbers) ≤ mostNumbers ⌝ }
-    ensures { λ r. ⌜ Lists (now (numbers .entry)) r ⌝ }
+    ensures { λ r. ⌜ AreListed (now (numbers .entry)) r ⌝ }
 {
     let mut all = [0u64; MOST_NUMBERS];
     let mut i: usize = 0;

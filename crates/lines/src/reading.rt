@@ -5,9 +5,9 @@ use crate::line::Front;
 use crate::line::Line;
 use crate::line::MayCome;
 use crate::line::Totals;
-use crate::listed::MOST_NUMBERS;
 use crate::opening::OPENING_LENGTH;
 use crate::opening::is_opening;
+use meter::CARD_FIELDS;
 use meter::Card;
 use meter::Sample;
 use quantity::Outcome;
@@ -48,7 +48,7 @@ fn front_card(bytes: &[u8]) -> Front
     if first_byte(bytes) != b'C' {
         return Front::Refused(61);
     }
-    let mut f = [0u64; MOST_NUMBERS];
+    let mut f = [0u64; CARD_FIELDS];
     let numbers = read_numbers(bytes, b'C', &mut f);
     match numbers {
         Numbers::All(n) => accepted_card(Card::from_fields(f), n),

@@ -1,4 +1,4 @@
-// The line that the audit program prints (document 01, "Edges": "prints R, serial, accepted, refused, register, volume; or X, refusal,
+// The line that the audit program prints (document 01, "Edges to try": "prints R, serial, accepted, refused, register, volume; or X, refusal,
 // line; ended by byte 0A").
 use crate::writing::put_text;
 ghost use mathlib.Core.Path.{_≡_};
@@ -6,10 +6,15 @@ ghost use mathlib.Core.List.{_∷_, []};
 ghost use Prim.Native.Nat.{_≤_};
 ghost use lib.ListN.{length};
 ghost use Rattle.lines.specs.Line.{textOf};
-ghost use Rattle.lines.specs.Report.{reportText, mostReported, longestLine, outputOf};
+ghost use Rattle.lines.specs.Report.{reportText, mostReported, longestOutput, outputOf};
 
-// No output line is longer: a letter, five numbers, each a comma and at most 20 digits, and the line feed.
-const LONGEST: usize = 107;
+// An output line has at most five numbers, of at most 20 digits.
+const MOST_REPORTED: usize = 5;
+
+const MOST_DIGITS_64: usize = 20;
+
+// No output line is longer: a letter, five numbers, each after a comma, and the line feed.
+const LONGEST: usize = 1 + MOST_REPORTED * (1 + MOST_DIGITS_64) + 1;
 
 // What an audit found: the state that the file ends with, or the first refusal and its line.
 pub enum Report {
@@ -35,7 +40,7 @@ pub struct OutputLine {
 // The report's line.
 pub fn report_line(report: Report) -> OutputLine
     ensures { λ r. ⌜ r ≡ outputOf (reportText report) ⌝ }
-    ensures { λ r. ⌜ r .length ≤ longestLine ⌝ }
+    ensures { λ r. ⌜ r .length ≤ longestOutput ⌝ }
 {
     match report {
         Report::EndState {
@@ -53,7 +58,7 @@ pub fn report_line(report: Report) -> OutputLine
 fn output_of(letter: u8, numbers: &[u64]) -> OutputLine
     requires { ⌜ length (now numbers) ≤ mostReported ⌝ }
     ensures { λ r. ⌜ r ≡ outputOf (textOf (letter ∷ []) (now (numbers .entry))) ⌝ }
-    ensures { λ r. ⌜ r .length ≤ longestLine ⌝ }
+    ensures { λ r. ⌜ r .length ≤ longestOutput ⌝ }
 {
     let mut bytes = [0u8; LONGEST];
     let length = put_text(&mut bytes, 0, letter, numbers);

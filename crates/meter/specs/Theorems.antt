@@ -34,8 +34,8 @@ RegisterBounds =
     WithinBounds (z .register) (allowanceOf (heatSamples c) ks) (sumOf (heatSamples c) ks)
 
 -- It speaks of every list of samples: such calls exist, leave marks of these samples, and their marks and their last meter are the only ones.
-abbrev pub Exist : Type 0
-Exist = (m : Meter) (ss : List Sample) → Calls m (marksOf m ss) (lastOf m ss)
+abbrev pub CallsExist : Type 0
+CallsExist = (m : Meter) (ss : List Sample) → Calls m (marksOf m ss) (lastOf m ss)
 
 abbrev pub Given : Type 0
 Given = (m : Meter) (ss : List Sample) → samplesOf (marksOf m ss) ≡ ss
@@ -93,7 +93,7 @@ pub record WithinLimits (m : Meter) : Type 0 where
 abbrev pub StaysWithinLimits : Type 0
 StaysWithinLimits = (c : Card) (m : Meter) → freshOf c ≡ FreshMeter.Made m → (ks : List Mark) (z : Meter) → Calls m ks z → WithinLimits z
 
--- so after any calls from a fresh meter the step refuses with 21 or with a number of the sample's rows
+-- so after any calls from a fresh meter the step refuses with 21 or with a number from 30 on, which only the sample's rows have
 abbrev pub NoOtherRefusal : Type 0
 NoOtherRefusal =
     (c : Card) (m : Meter) → freshOf c ≡ FreshMeter.Made m → (ks : List Mark) (z : Meter) → Calls m ks z →

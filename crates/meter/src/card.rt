@@ -34,7 +34,7 @@ pub struct Card {
 }
 
 impl Card {
-    // The one place that builds a card.
+    // The one place of this crate that builds a card.
     pub fn from_fields(f: [u64; CARD_FIELDS]) -> Card
         ensures { λ r. ⌜ fieldsOf r ≡ f ⌝ }
     {

@@ -44,7 +44,7 @@ pub fn fresh(card: Card) -> FreshMeter
     }
 }
 
-// The one place that builds a meter.
+// The one place of this crate that builds a meter.
 pub(crate) fn meter_of(card: Card, register: u64, volume: u64, accepted: u64, refused: u64) -> Meter
     ensures { λ r. ⌜ r ≡ record { card = card; register = register; volume = volume; accepted = accepted; refused = refused } ⌝ }
 {

@@ -20,7 +20,7 @@ ghost use lib.Dec.{ltb};
 ghost use Rattle.quantity.specs.Refusals.{firstOf};
 ghost use Rattle.meter.specs.State.{largestRegister, largestVolume, largestCount};
 ghost use Rattle.meter.specs.Step.{countRows, readingRows, rangeRows, limitRows, sampleRows, adding, refusing, bySample, stepOf};
-ghost use Rattle.meter.specs.inside.Stages.{BeforeSample, Counted, Compared, Ranged, Heated, Fits};
+ghost use Rattle.meter.specs.inside.Stages.{BeforeSample, CountsPass, Compared, Ranged, Heated, Fits};
 
 // The meter after a step, and no refusal or its number.
 pub struct Stepped {
@@ -56,7 +56,7 @@ fn take_sample(m: Meter, s: Sample) -> Stepped
 }
 
 fn take_readings(m: Meter, s: Sample) -> Stepped
-    requires { ⌜ Counted m s ⌝ }
+    requires { ⌜ CountsPass m s ⌝ }
     ensures { λ r. ⌜ r ≡ bySample m s (firstOf (readingRows (m .card) s ++ (rangeRows (m .card) s ++ limitRows m s))) ⌝ }
 {
     let sensor = m.card.sensor;

@@ -7,16 +7,19 @@ use native.Mathlib.Nat.{mul-le-mul-left, le-dest, le-of-eq, le-of-lt, eq-or-lt-o
 use native.Mathlib.Omega.{arith}
 use Rattle.quantity.specs.Units.{lastHundredth}
 use Rattle.platinum.specs.Temperature.{W}
-use Rattle.platinum.specs.Theorems.{Grows}
+use Rattle.platinum.specs.Theorems.{Grows, NeverCutOff}
 
 -- what is taken off is never more than half of what is added
 pub square : (t : ℕ) → t ≤ lastHundredth → 5775 * t * t ≤ 103950000 * t
 square t h = omega (arith, mul-le-mul-left t h)
 
+pub never-cut-off : NeverCutOff
+never-cut-off t h = omega (arith, square t h)
+
 between : (a x : ℕ) → a + suc x ≤ lastHundredth → W a < W (a + suc x)
 unfolding W
 between a x h =
-    let two : a + (a + suc x) ≤ 36000 = omega arith in
+    let two : a + (a + suc x) ≤ 2 * lastHundredth = omega arith in
     omega (arith, mul-le-mul-left (suc x) two, square a (omega arith), square (a + suc x) h)
 
 pub grows : Grows

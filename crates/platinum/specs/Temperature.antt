@@ -42,7 +42,7 @@ ofKind Unknown r = NoSensor
 unfoldable pub temperatureOf : ℕ → ℕ → Measured
 temperatureOf field r = ofKind (sensorOf field) r
 
--- The two sentences as statements about t, which proofs/Answer.antt shows of `ofResistance`: it answers a temperature exactly where
+-- The two sentences as statements about t. `Answered` and `Exactly` of specs/Theorems.antt say of `ofResistance` that it answers a temperature exactly where
 -- there is one, and then the one that is the largest.
 pub record HasTemperature (n r : ℕ) : Type 0 where
   pub from : n * W 0 ≤ scaled r

@@ -1,6 +1,6 @@
 -- What is proved of the temperature's definition, statement by statement. Each is proved in proofs/ under its name in small letters.
 use mathlib.Core.Path.{_≡_}
-use Prim.Native.Nat.{ℕ, _≤_, _<_}
+use Prim.Native.Nat.{ℕ, _+_, _*_, _≤_, _<_}
 use Rattle.quantity.specs.Refusals.{firstOf}
 use Rattle.quantity.specs.Units.{lastHundredth}
 use Rattle.quantity.specs.declared.units.Temperature.{Temperature}
@@ -12,6 +12,10 @@ use Rattle.platinum.specs.declared.reading.Measured.the-variants.{At}
 -- W grows on 0..18000, so that a larger share of the resistance at 0 °C is a higher temperature
 abbrev pub Grows : Type 0
 Grows = (a b : ℕ) → a < b → b ≤ lastHundredth → W a < W b
+
+-- and the difference of whole numbers in it, which would stop at 0, never does
+abbrev pub NeverCutOff : Type 0
+NeverCutOff = (t : ℕ) → t ≤ lastHundredth → 5775 * t * t ≤ 100000000000000 + 3908300000 * t
 
 -- a temperature that is answered is that of the reading, and the reading has one
 abbrev pub Answered : Type 0

@@ -1,4 +1,4 @@
--- What the contracts of this crate, and of those above it, cite.
+-- What the contracts of this crate, and of those above it, cite; the statements of its theorems.
 pub mod Units
 pub mod Refusals
 pub mod Range

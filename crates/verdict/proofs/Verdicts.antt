@@ -16,7 +16,7 @@ use Rattle.verdict.specs.declared.class.Figures.{Figures}
 use Rattle.verdict.specs.declared.point.TestPoint.{TestPoint}
 use Rattle.verdict.specs.declared.bench.Verdict.the-variants.{Refused}
 use Rattle.verdict.proofs.Passing.{equal-limits}
-use Rattle.verdict.proofs.Positive.{limit-positive}
+use Rattle.verdict.proofs.Positive.{limit-is-fraction}
 
 -- the last row after the others
 pub last-row : (p : TestPoint) (i x : ℕ) → orRow (firstOf (pointRows p)) (valueOutside i x) 55 ≡ firstOf (verdictRows p i x)
@@ -35,4 +35,4 @@ refused p i x n e = simp (sym (last-row p i x) ∙ e)
 
 pub judged : (p : TestPoint) (f : Figures) (r : Fraction) (i x : ℕ) → orRow (firstOf (pointRows p)) (valueOutside i x) 55 ≡ Accepted → f ≡ figuresOf (p .class) → Represents r (limitOf f p) → answer (passes r i x) ≡ verdictOf p i x
 unfolding verdictOf refusedOr
-judged p f r i x e c h = simp (sym (last-row p i x) ∙ e, ← c, equal-limits r (limitOf f p) i x h (limit-positive f p (both _ _ _ e .0)))
+judged p f r i x e c h = simp (sym (last-row p i x) ∙ e, ← c, equal-limits r (limitOf f p) i x h (limit-is-fraction f p (both _ _ _ e .0)))

@@ -14,7 +14,7 @@ use Rattle.verdict.specs.Verdict.{passes, answer, refusedOr, verdictOf}
 use Rattle.verdict.specs.declared.point.TestPoint.{TestPoint}
 use Rattle.verdict.specs.declared.bench.Verdict.the-variants.{Pass}
 use Rattle.verdict.proofs.Passing.{wider}
-use Rattle.verdict.proofs.Positive.{limit-positive}
+use Rattle.verdict.proofs.Positive.{limit-is-fraction}
 use Rattle.verdict.proofs.Verdicts.{last-row, both}
 
 -- a pass comes only where no row refuses and the comparison holds
@@ -50,7 +50,7 @@ widened p w i x a h e =
     (record {
       admitted = a;
       in-range = t .in-range;
-      within = wider (limitOf (figuresOf (p .class)) p) _ i x (limit-positive _ _ (t .admitted)) h (t .within);
+      within = wider (limitOf (figuresOf (p .class)) p) _ i x (limit-is-fraction _ _ (t .admitted)) h (t .within);
     })
 
 pub in-service : InService

@@ -2,7 +2,7 @@
 -- the limits in percent are: calculator 0.5 + Δmin/Δ; pair 0.5 + 3×Δmin/Δ; flow sensor 1 + 0.01×qp/q, 2 + 0.02×qp/q,
 -- 3 + 0.05×qp/q for classes 1, 2, 3, at most 5 (a cap fixed here); complete is the sum of the three. In service, twice
 -- the result." They are asked for only where no row refuses, and there their lower numbers are above zero
--- (proofs/Positive.antt).
+-- (`LimitIsFraction` of specs/Theorems.antt).
 use Prim.Native.Nat.{ℕ, _*_}
 use mathlib.Core.Bool.{cond}
 use lib.Dec.{eqb}

@@ -6,9 +6,17 @@ use Rattle.quantity.specs.declared.fraction.Fraction.{Fraction}
 use Rattle.verdict.specs.Limit.{hundredths, figuresOf, differenceRatio, flowRatio, flowSensorSum, completeLimit, limitOf}
 use Rattle.verdict.specs.Rows.{largestValue, Admitted}
 use Rattle.verdict.specs.Verdict.{passes, verdictOf}
+use Rattle.verdict.specs.declared.class.Figures.{Figures}
 use Rattle.verdict.specs.declared.point.TestPoint.{TestPoint}
 use Rattle.verdict.specs.declared.bench.Verdict.{Verdict}
 use Rattle.verdict.specs.declared.bench.Verdict.the-variants.{Pass, Fail}
+
+-- where no row refuses the test point, its limit and a complete instrument's are fractions, their lower numbers above zero
+abbrev pub LimitIsFraction : Type 0
+LimitIsFraction = (f : Figures) (p : TestPoint) → Admitted p → IsFraction (limitOf f p)
+
+abbrev pub CompleteIsFraction : Type 0
+CompleteIsFraction = (f : Figures) (p : TestPoint) → Admitted p → IsFraction (completeLimit f p)
 
 -- a wider limit never turns a pass into a fail: what passes at one test point passes at every other whose limit is no smaller
 abbrev pub Widened : Type 0

@@ -1,7 +1,7 @@
 -- The verdict, document 01, "Error verdict": "It passes exactly when |I−X|×100 ≤ limit×X, in exact arithmetic."
 use Prim.Native.Nat.{ℕ, _-_, _*_, min, max}
 use mathlib.Core.Bool.{Bool, true, false}
-use lib.Dec.{leb}
+use Rattle.quantity.specs.Fractions.{whole, times, isAtMost}
 use Rattle.quantity.specs.Refusals.{firstOf}
 use Rattle.quantity.specs.declared.refusal.Outcome.{Outcome}
 use Rattle.quantity.specs.declared.refusal.Outcome.the-variants.{Accepted, Refused as RowRefused}
@@ -16,9 +16,9 @@ use Rattle.verdict.specs.declared.bench.Verdict.the-variants.{Pass, Fail
 abbrev pub absoluteError : ℕ → ℕ → ℕ
 absoluteError i x = max i x - min i x
 
--- |I−X|×100 ≤ limit×X, by cross products
+-- |I−X|×100 ≤ limit×X, as fractions
 unfoldable pub passes : Fraction → ℕ → ℕ → Bool
-passes l i x = leb (absoluteError i x * 100 * l .denominator) (l .numerator * x)
+passes l i x = isAtMost (whole (absoluteError i x * 100)) (times l (whole x))
 
 -- the answer, by whether it passes
 abbrev pub answer : Bool → Verdict

@@ -18,15 +18,15 @@ use Rattle.water.specs.inside.Lists.{enthalpies, volumes, Right, WaterRi
 
 -- the test: both entries of a degree are the table's
 unfoldable pub isRight : Table → List ℕ → List ℕ → ℕ → Bool
-isRight w hs vs d = eqb (getD hs d 0) (w .enthalpyOf d) && eqb (getD vs d 0) (w .volumeOf d)
+isRight w hs vs d = eqb (getD hs d 0) (w .specificEnthalpy d) && eqb (getD vs d 0) (w .specificVolume d)
 
 pub right : (w : Table) (hs vs : List ℕ) → T (span (isRight w hs vs) 0 (suc (w .last))) → Right w hs vs
 unfolding isRight
 right w hs vs t = record { enthalpy = λ d l. eqb→eq _ _ (both d l .0); volume = λ d l. eqb→eq _ _ (both d l .1) }
   where
-    both : (d : ℕ) → d ≤ w .last → T (eqb (getD hs d 0) (w .enthalpyOf d)) × T (eqb (getD vs d 0) (w .volumeOf d))
+    both : (d : ℕ) → d ≤ w .last → T (eqb (getD hs d 0) (w .specificEnthalpy d)) × T (eqb (getD vs d 0) (w .specificVolume d))
     both d l =
-        and-yes (eqb (getD hs d 0) (w .enthalpyOf d)) (eqb (getD vs d 0) (w .volumeOf d))
+        and-yes (eqb (getD hs d 0) (w .specificEnthalpy d)) (eqb (getD vs d 0) (w .specificVolume d))
         (below (isRight w hs vs) (suc (w .last)) t d (omega arith))
 
 -- for the arrays of src/tables.rt the test is computed in two parts, since one declaration may take 50 million steps
@@ -43,8 +43,8 @@ water-right = right water enthalpies volumes (join (isRight water enthalpies vol
 
 -- where the entries are right, so is what lies between them
 module _ (w : Table) (hs vs : List ℕ) (r : Right w hs vs) where
-  pub enthalpy-between : (t : ℕ) → interpolated (λ d. getD hs d 0) (w .last) t ≡ interpolated (w .enthalpyOf) (w .last) t
-  enthalpy-between = alike (λ d. getD hs d 0) (w .enthalpyOf) (w .last) (r .enthalpy)
+  pub enthalpy-between : (t : ℕ) → interpolated (λ d. getD hs d 0) (w .last) t ≡ interpolated (w .specificEnthalpy) (w .last) t
+  enthalpy-between = alike (λ d. getD hs d 0) (w .specificEnthalpy) (w .last) (r .enthalpy)
 
-  pub volume-between : (t : ℕ) → interpolated (λ d. getD vs d 0) (w .last) t ≡ interpolated (w .volumeOf) (w .last) t
-  volume-between = alike (λ d. getD vs d 0) (w .volumeOf) (w .last) (r .volume)
+  pub volume-between : (t : ℕ) → interpolated (λ d. getD vs d 0) (w .last) t ≡ interpolated (w .specificVolume) (w .last) t
+  volume-between = alike (λ d. getD vs d 0) (w .specificVolume) (w .last) (r .volume)

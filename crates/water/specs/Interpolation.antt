@@ -17,7 +17,7 @@ interpolated entry last t = cond (ltb t (100 * last)) (between entry (t / 100) (
 
 -- H(t) in 10^-2 mJ/kg and V(t) in 10^-14 m³/kg
 abbrev pub enthalpyAt : Table → Temperature → ℕ
-enthalpyAt w t = interpolated (w .enthalpyOf) (w .last) (t .0)
+enthalpyAt w t = interpolated (w .specificEnthalpy) (w .last) (t .0)
 
 abbrev pub volumeAt : Table → Temperature → ℕ
-volumeAt w t = interpolated (w .volumeOf) (w .last) (t .0)
+volumeAt w t = interpolated (w .specificVolume) (w .last) (t .0)

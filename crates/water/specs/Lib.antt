@@ -1,4 +1,4 @@
--- What the contracts of this crate, and of those above it, cite.
+-- What the contracts of this crate, and of those above it, cite; the statements of its theorems; and, apart, what only its inside cites.
 pub mod Signed
 pub mod If97
 pub mod Table

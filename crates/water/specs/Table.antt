@@ -1,6 +1,6 @@
 -- The water table, document 01: "The table has one entry for every whole degree from 0 to 180: specific enthalpy h in
 -- mJ/kg and specific volume v in 10^-12 m³/kg. Each is the exact IF97 region 1 value at 1.6 MPa, rounded to nearest, halves
--- up." No other definition knows the pressure and the degrees.
+-- up." No other definition of an operation names the pressure.
 use Prim.Native.Nat.{ℕ, _^_}
 use mathlib.Core.Bool.{cond}
 use lib.Dec.{leb}
@@ -13,8 +13,8 @@ use Rattle.water.specs.declared.answers.Entry.the-variants.{At, Outside}
 -- a table: its last degree, and its entries by the degree
 pub record Table : Type 0 where
   pub last : ℕ
-  pub enthalpyOf : ℕ → ℕ
-  pub volumeOf : ℕ → ℕ
+  pub specificEnthalpy : ℕ → ℕ
+  pub specificVolume : ℕ → ℕ
 
 -- "T = degrees + 273.15"
 abbrev pub kelvins : SignedFraction → SignedFraction
@@ -29,7 +29,7 @@ volumeEntry bar d = nearest (decimalNumber (10 ^ 12) 0 ⊗ volume (decimalNumber
 
 -- the table at a pressure in bar, from degree 0 to a last one
 abbrev pub tableAt : ℕ → ℕ → Table
-tableAt bar n = record { last = n; enthalpyOf = enthalpyEntry bar; volumeOf = volumeEntry bar }
+tableAt bar n = record { last = n; specificEnthalpy = enthalpyEntry bar; specificVolume = volumeEntry bar }
 
 -- the table of document 01: 16 bar are 1.6 MPa
 abbrev pub water : Table
@@ -37,4 +37,4 @@ water = tableAt 16 lastDegree
 
 -- what a table has at any whole degree
 unfoldable pub entryOf : Table → ℕ → Entry
-entryOf w d = cond (leb d (w .last)) (At (w .enthalpyOf d) (w .volumeOf d)) Outside
+entryOf w d = cond (leb d (w .last)) (At (w .specificEnthalpy d) (w .specificVolume d)) Outside

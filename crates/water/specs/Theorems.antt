@@ -8,6 +8,7 @@ use Rattle.quantity.specs.declared.units.Temperature.{Temperature}
 use Rattle.quantity.specs.Fractions.{whole, IsFraction, AtMost, floored}
 use Rattle.quantity.specs.Refusals.{outside}
 use Rattle.water.specs.Table.{Table, water}
+use Rattle.water.specs.Interpolation.{enthalpyAt, volumeAt}
 use Rattle.water.specs.Pair.{atPlace}
 use Rattle.water.specs.Heat.{exactHeat, heatOf}
 use Rattle.water.specs.declared.answers.Heat.{Heat}
@@ -16,13 +17,21 @@ use Rattle.water.specs.declared.answers.Heat.{Heat}
 -- h in mJ/kg grows by at least 4,100,000 per degree and is at most 800,000,000; v in 10^-12 m³/kg is at least 900,000,000
 -- and at most 1,130,000,000
 pub record TableBounds (w : Table) : Type 0 where
-  pub grows : (d : ℕ) → d < w .last → w .enthalpyOf d + 4100000 ≤ w .enthalpyOf (d + 1)
-  pub most-enthalpy : (d : ℕ) → d ≤ w .last → w .enthalpyOf d ≤ 800000000
-  pub least-volume : (d : ℕ) → d ≤ w .last → 900000000 ≤ w .volumeOf d
-  pub most-volume : (d : ℕ) → d ≤ w .last → w .volumeOf d ≤ 1130000000
+  pub grows : (d : ℕ) → d < w .last → w .specificEnthalpy d + 4100000 ≤ w .specificEnthalpy (d + 1)
+  pub most-enthalpy : (d : ℕ) → d ≤ w .last → w .specificEnthalpy d ≤ 800000000
+  pub least-volume : (d : ℕ) → d ≤ w .last → 900000000 ≤ w .specificVolume d
+  pub most-volume : (d : ℕ) → d ≤ w .last → w .specificVolume d ≤ 1130000000
 
 abbrev pub WaterBounded : Type 0
 WaterBounded = TableBounds water
+
+-- of a table so bounded H never falls, so that the difference of whole numbers H(ts)−H(tr) never stops at 0, and V is above zero
+abbrev pub EnthalpyInOrder : Type 0
+EnthalpyInOrder =
+    (w : Table) → TableBounds w → (a b : Temperature) → b .0 ≤ a .0 → a .0 ≤ 100 * w .last → enthalpyAt w b ≤ enthalpyAt w a
+
+abbrev pub VolumeAboveZero : Type 0
+VolumeAboveZero = (w : Table) → TableBounds w → (t : Temperature) → 0 < volumeAt w t
 
 -- The exact heat of u mL between any two temperatures, with V at any temperature: it is a fraction,
 abbrev pub HeatIsFraction : Type 0

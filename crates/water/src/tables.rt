@@ -4,8 +4,11 @@ ghost use Rattle.water.specs.Table.{water, entryOf};
 use crate::answers::Entry;
 use quantity::LAST_DEGREE;
 
+// One for every whole degree from 0 to the last.
+const ENTRIES: usize = 181;
+
 // The specific enthalpy in mJ/kg.
-pub(crate) const ENTHALPY: [u32; 181] = [
+pub(crate) const ENTHALPY: [u32; ENTRIES] = [
     1585887,
     5796270,
     10003604,
@@ -190,7 +193,7 @@ pub(crate) const ENTHALPY: [u32; 181] = [
 ];
 
 // The specific volume in 10^-12 m³/kg.
-pub(crate) const VOLUME: [u32; 181] = [
+pub(crate) const VOLUME: [u32; ENTRIES] = [
     999394952,
     999341893,
     999306234,

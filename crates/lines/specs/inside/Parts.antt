@@ -8,9 +8,10 @@ use lib.Dec.{eqb}
 use lib.ListN.{length, getD, take}
 use Rattle.quantity.specs.Refusals.{firstOf}
 use Rattle.quantity.specs.declared.refusal.Outcome.the-variants as O
+use Rattle.meter.specs.Card.{cardFields}
 use Rattle.lines.specs.Bytes.{comma, digitZero, letterE, letterS}
-use Rattle.lines.specs.Number.{mostWidth, isDigit, mostDigits, isNumber, valueOf}
-use Rattle.lines.specs.Line.{Kind, sample, totals, mostNumbers}
+use Rattle.lines.specs.Number.{mostDigits64, isDigit, mostDigits, isNumber, valueOf}
+use Rattle.lines.specs.Line.{LineKind, sample, totals}
 use Rattle.lines.specs.Reading.{shapeRows, numbersIn, sizeOf}
 use Rattle.lines.specs.declared.listed.Listed.{Listed}
 use Rattle.lines.specs.declared.number.Field.{Field}
@@ -57,10 +58,14 @@ lastDigits (suc k) n = lastDigits k (n / 10) ++ ((digitZero + n % 10) ∷ [])
 
 -- the most bytes of so many of them, each after a comma
 abbrev pub mostBytes : ℕ → ℕ
-mostBytes count = (1 + mostWidth) * count
+mostBytes count = (1 + mostDigits64) * count
+
+-- no line has more numbers than the card's
+abbrev pub mostNumbers : ℕ
+mostNumbers = cardFields
 
 -- numbers as the code lists them: the first count of as many as a line can have
-pub record Lists (ns : List ℕ) (l : Listed) : Type 0 where
+pub record AreListed (ns : List ℕ) (l : Listed) : Type 0 where
   pub few : l .count ≤ mostNumbers
   pub long : length (l .numbers) ≡ mostNumbers
   pub are : take (l .count) (l .numbers) ≡ ns
@@ -75,5 +80,5 @@ pub record Lettered (letter : ℕ) (bs : List ℕ) : Type 0 where
 abbrev pub FourLetter : ℕ → Type 0
 FourLetter letter = (letter ≡ letterS) ⊎ (letter ≡ letterE)
 
-unfoldable pub fourKind : ℕ → Kind
+unfoldable pub fourKind : ℕ → LineKind
 fourKind letter = cond (eqb letter letterE) totals sample

@@ -19,13 +19,13 @@ pub record BeforeSample (m : Meter) : Type 0 where
   pub state : NoneApplies (stateRows m)
 
 -- and none of the sample's counts
-pub record Counted (m : Meter) (s : Sample) : Type 0 where
+pub record CountsPass (m : Meter) (s : Sample) : Type 0 where
   pub before-sample : BeforeSample m
   pub count : NoneApplies (countRows (m .card) s)
 
 -- the sample's two temperatures
 pub record Compared (m : Meter) (s : Sample) (supply returned : Temperature) : Type 0 where
-  pub counted : Counted m s
+  pub counted : CountsPass m s
   pub supply-is : supply ≡ ts (m .card) s
   pub returned-is : returned ≡ tr (m .card) s
 
@@ -45,7 +45,7 @@ pub record Ranged (m : Meter) (s : Sample) (volume : ℕ) (supply returned : Tem
 
 -- what the sample would add
 pub record Heated (m : Meter) (s : Sample) (heat volume : ℕ) : Type 0 where
-  pub counted : Counted m s
+  pub counted : CountsPass m s
   pub heat-is : heat ≡ floored (sampleHeat (m .card) s)
   pub volume-is : volume ≡ volumeOf (m .card) s
 

@@ -53,8 +53,8 @@ volumes =
 
 -- two lists are a table's entries, at every degree
 pub record Right (w : Table) (hs vs : List ℕ) : Type 0 where
-  pub enthalpy : (d : ℕ) → d ≤ w .last → getD hs d 0 ≡ w .enthalpyOf d
-  pub volume : (d : ℕ) → d ≤ w .last → getD vs d 0 ≡ w .volumeOf d
+  pub enthalpy : (d : ℕ) → d ≤ w .last → getD hs d 0 ≡ w .specificEnthalpy d
+  pub volume : (d : ℕ) → d ≤ w .last → getD vs d 0 ≡ w .specificVolume d
 
 -- every entry of the two arrays of the code is the rounded IF97 value
 abbrev pub WaterRight : Type 0

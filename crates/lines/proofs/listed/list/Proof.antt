@@ -6,7 +6,7 @@ use native.Mathlib.Omega.{arith}
 use lib.ListN.{length, take, length-set}
 use lib.Seq.{take-all}
 use denote.Ref.{now}
-use Rattle.lines.specs.Line.{mostNumbers}
+use Rattle.lines.specs.inside.Parts.{mostNumbers}
 use Rattle.lines.proofs.Listing.{list-more}
 use Rattle.lines.proofs.listed.list.Statement.{statement}
 use Rattle.lines.proofs.listed.list.Tie as tie

@@ -9,12 +9,12 @@ use lib.ListN.{length}
 use denote.Ref.{now}
 use borrow.Author.Needs.{needs}
 use Rattle.lines.specs.Line.{textOf}
-use Rattle.lines.specs.Report.{longestLine, outputOf}
+use Rattle.lines.specs.Report.{longestOutput, outputOf}
 use Rattle.lines.proofs.Reports.{line-within}
 use Rattle.lines.proofs.report.output_of.Statement.{statement}
 use Rattle.lines.proofs.report.output_of.Tie as tie
 
-within : (c : tie.After-shared-slice-known) → length (textOf (c .before .args .letter ∷ []) (now (c .before .args .numbers))) ≤ longestLine
+within : (c : tie.After-shared-slice-known) → length (textOf (c .before .args .letter ∷ []) (now (c .before .args .numbers))) ≤ longestOutput
 within c =
     line-within (c .before .args .letter) (now (c .before .args .numbers)) (c .before .pre) (λ i. omega (arith, c .shared-slice-known .given i))
 

@@ -6,6 +6,7 @@ use mathlib.Core.List.{List, [], _∷_}
 use Rattle.quantity.specs.Refusals.{Row, row, firstOf}
 use Rattle.quantity.specs.declared.refusal.Outcome.the-variants.{Accepted}
 use Rattle.quantity.proofs.Rows.{none-applies}
+use Rattle.quantity.specs.Units.{lastHundredth}
 use Rattle.water.specs.Table.{water}
 use Rattle.water.specs.declared.answers.Coefficient.the-variants.{Value}
 use Rattle.water.specs.Pair.{areEqual}
@@ -51,7 +52,7 @@ floored-coefficient-requires c κs =
     let p = passed water (a .ts) (a .tr) (a .place) (row 37 (areEqual (a .ts) (a .tr)) ∷ []) (none-applies (rows s) (accepted (c .before))) in (
       apart (a .ts) (a .tr) (p .0 .order) (p .1 .0),
       p .0 .supply,
-      rw (c .at-place .ensures) (at-place-at-most (a .place) (a .ts) (a .tr) 18000 (p .0 .supply) (p .0 .return)),
+      rw (c .at-place .ensures) (at-place-at-most (a .place) (a .ts) (a .tr) lastHundredth (p .0 .supply) (p .0 .return)),
     )
 
 returns : tie.Need-returns

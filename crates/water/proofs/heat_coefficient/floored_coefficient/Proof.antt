@@ -7,6 +7,7 @@ use native.Mathlib.Nat.{mul-assoc, mul-le-mul}
 use native.Mathlib.Omega.{arith}
 use Rattle.quantity.specs.declared.units.Difference.{Difference}
 use Rattle.quantity.specs.Units.{distanceOf}
+use Rattle.quantity.specs.Units.{lastHundredth}
 use Rattle.water.specs.Table.{water}
 use Rattle.water.specs.Coefficient.{flooredCoefficient}
 use Rattle.water.proofs.Bounds.{water-bounded}
@@ -21,11 +22,11 @@ rise-at-most c = omega (arith, enthalpy-at-most water water-bounded (c .before .
 divisor-lies :
     (c : tie.After-volume-at) →
     (90000000000 * 1 ≤ c .volume-at .result * c .before .distance .result .0)
-    × (c .volume-at .result * c .before .distance .result .0 ≤ 113000000000 * 18000)
+    × (c .volume-at .result * c .before .distance .result .0 ≤ 113000000000 * lastHundredth)
 unfolding distanceOf
 divisor-lies c =
     let s = c .before .before .before in
-    let d : (1 ≤ c .before .distance .result .0) × (c .before .distance .result .0 ≤ 18000) =
+    let d : (1 ≤ c .before .distance .result .0) × (c .before .distance .result .0 ≤ lastHundredth) =
     omega (arith, ap (λ (x : Difference). x .0) (c .before .distance .ensures), s .pre) in
     let v : (90000000000 ≤ c .volume-at .result) × (c .volume-at .result ≤ 113000000000) =
     omega (arith, volume-lies water water-bounded (s .args .measured), c .volume-at .ensures) in

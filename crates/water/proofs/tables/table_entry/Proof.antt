@@ -4,6 +4,7 @@ use borrow.Author.Needs.{needs}
 use borrow.Author.Tests.{le-leb, lt-leb}
 use mathlib.Core.Path.{ap₂}
 use native.Mathlib.Omega.{arith}
+use Rattle.quantity.specs.Units.{lastDegree}
 use Rattle.water.specs.Table.{entryOf}
 use Rattle.water.specs.declared.answers.Entry.the-variants.{At}
 use Rattle.water.specs.inside.Lists.{enthalpies, volumes}
@@ -40,12 +41,12 @@ returns : tie.Need-returns
 unfolding entryOf enthalpies volumes
 returns c =
     let d = c .before .args .degree in
-    simp (entryOf, le-leb d 180 (omega arith))
+    simp (entryOf, le-leb d lastDegree (omega arith))
     (ap₂ At (water-right .enthalpy d (omega arith)) (water-right .volume d (omega arith)))
 
 returns-2 : tie.Need-returns-2
 unfolding entryOf
-returns-2 c = simp (entryOf, lt-leb (c .before .args .degree) 180 (omega arith))
+returns-2 c = simp (entryOf, lt-leb (c .before .args .degree) lastDegree (omega arith))
 
 pub table-entry-spec : {M : Type 1} → statement M
 table-entry-spec =

@@ -8,6 +8,7 @@ use borrow.Author.Tests.{ltb-false}
 use Rattle.quantity.specs.Refusals.{Row, row, firstOf}
 use Rattle.quantity.specs.declared.refusal.Outcome.the-variants.{Accepted}
 use Rattle.quantity.proofs.Rows.{none-applies}
+use Rattle.quantity.specs.Units.{lastHundredth}
 use Rattle.water.specs.Table.{water}
 use Rattle.water.specs.declared.answers.Heat.the-variants.{Millijoules}
 use Rattle.water.specs.Heat.{heatRows, heatOf}
@@ -50,7 +51,7 @@ floored-heat-requires c κs =
       ltb-false 1000000 (a .u) (p .1 .0),
       p .0 .order,
       p .0 .supply,
-      rw (c .at-place .ensures) (at-place-at-most (a .place) (a .ts) (a .tr) 18000 (p .0 .supply) (p .0 .return)),
+      rw (c .at-place .ensures) (at-place-at-most (a .place) (a .ts) (a .tr) lastHundredth (p .0 .supply) (p .0 .return)),
     )
 
 returns : tie.Need-returns
