@@ -10,7 +10,7 @@ use lib.Dec.{eqb, ltb}
 use lib.ListN.{length, getD, take, drop, length-append}
 use lib.Seq.{drop-at, take-at, length-take-le, drop-drop, drop-append-seam}
 use borrow.Author.Tests.{ltb-false, ltb-true, not-false}
-use Rattle.quantity.specs.Refusals.{row, firstOf, NoneApplies}
+use Rattle.quantity.specs.Refusals.{firstOf, NoneApplies}
 use Rattle.quantity.specs.declared.refusal.Outcome.{Outcome}
 use Rattle.quantity.specs.declared.refusal.Outcome.the-variants.{Accepted, Refused}
 use Rattle.quantity.proofs.Rows.{no-refusal, none-applies, none-of-parts}
@@ -20,7 +20,7 @@ use Rattle.lines.specs.Bytes.{lineFeed, letterC, letterE, letterH, lette
 use Rattle.lines.specs.Number.{decimal, isLong}
 use Rattle.lines.specs.Line.{LineKind, opening, card, sample, totals, kindOf, firstField, numbersOf, afterCommas, textOf, bytesOf, contentRows, countOf, lineOf, openingLength}
 use Rattle.lines.specs.Reading.{isSame, sizeOf, fieldsIn, firstIn, numbersIn, shapeRows, dueKind, lineIn, lineRows, readRows, answerOf, readOf, restOf}
-use Rattle.lines.specs.Writing.{someLong, writeRows, placeOf, writtenOf, putAt, bufferAfter}
+use Rattle.lines.specs.Writing.{someLong, textRows, writeRows, placeOf, writtenOf, putAt, bufferAfter}
 use Rattle.lines.specs.inside.Parts.{FourLetter, fourKind}
 use Rattle.lines.specs.RoundTrip.{toldOf, WritesBack}
 use Rattle.lines.specs.Theorems.{WrittenThenRead, ReadThenWritten, ReadWithin, OneLine, SameBytes, NoOtherBegins}
@@ -134,7 +134,7 @@ refused-place-or-room line h g size at r e =
     number : (o : Outcome) (k : ℕ) → o ≡ Refused k → placeOf (at + length (bytesOf line)) o ≡ W.Refused r → r ≡ k
     number o k c d = let f : W.Refused k ≡ W.Refused r = rw c at d in sym (cc f)
 
-    rest : firstOf (row 62 (someLong (numbersOf line)) ∷ row 66 (ltb (size - at) (length (bytesOf line))) ∷ []) ≡ cond (ltb (size - at) (length (bytesOf line))) (Refused 66) Accepted
+    rest : firstOf (textRows (size - at) line) ≡ cond (ltb (size - at) (length (bytesOf line))) (Refused 66) Accepted
     rest = simp h
 
     room : (t : Bool) → firstOf (writeRows size at line) ≡ cond t (Refused 66) Accepted → r ≡ 66

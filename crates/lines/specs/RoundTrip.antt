@@ -5,10 +5,10 @@ use mathlib.Core.List.{List, _++_}
 use mathlib.Core.Logic.{_⊎_}
 use Prim.Native.Nat.{ℕ, _-_}
 use lib.ListN.{length, take, drop}
-use Rattle.quantity.specs.Refusals.{firstOf, NoneApplies}
+use Rattle.quantity.specs.Refusals.{firstOf}
 use Rattle.quantity.specs.declared.refusal.Outcome.the-variants as O
 use Rattle.meter.specs.Card.{cardRows}
-use Rattle.lines.specs.Line.{firstField, openingLength, countOf, cardOf, numbersOf, bytesOf, contentRows}
+use Rattle.lines.specs.Line.{firstField, openingLength, countOf, cardOf, bytesOf}
 use Rattle.lines.specs.Reading.{isSame, othersIn, numbersIn, areNumbers, isMisshapen, dueKind, readOf, restOf}
 use Rattle.lines.specs.Writing.{writtenOf, Writable}
 use Rattle.lines.specs.declared.line.Line.{Line}

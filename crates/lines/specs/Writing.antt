@@ -19,13 +19,13 @@ unfoldable pub someLong : List ℕ → Bool
 someLong [] = false
 someLong (n ∷ ns) = isLong n || someLong ns
 
--- "67 place beyond the buffer; card numbers; 62 value of over 18 digits; 66 line longer than what follows the place", for a buffer of
--- size bytes. A place equal to the size is not beyond it.
+-- "62 value of over 18 digits; 66 line longer than what follows the place", where room bytes follow it
+abbrev pub textRows : ℕ → Line → List Row
+textRows room line = row 62 (someLong (numbersOf line)) ∷ row 66 (ltb room (length (bytesOf line))) ∷ []
+
+-- "67 place beyond the buffer; card numbers; 62 ..; 66 ..", for a buffer of size bytes. A place equal to the size is not beyond it.
 unfoldable pub writeRows : ℕ → ℕ → Line → List Row
-writeRows size at line =
-    row 67 (ltb size at)
-    ∷ (contentRows line
-    ++ (row 62 (someLong (numbersOf line)) ∷ row 66 (ltb (size - at) (length (bytesOf line))) ∷ []))
+writeRows size at line = row 67 (ltb size at) ∷ (contentRows line ++ textRows (size - at) line)
 
 -- the next place, or the first row's number
 unfoldable pub placeOf : ℕ → Outcome → Written

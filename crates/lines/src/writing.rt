@@ -12,13 +12,12 @@ use quantity::Outcome;
 ghost use mathlib.Core.Path.{_≡_};
 ghost use mathlib.Core.List.{_∷_, [], map};
 ghost use Prim.Native.Nat.{_+_, _≤_};
-ghost use lib.Dec.{ltb};
 ghost use lib.ListN.{length};
-ghost use Rattle.quantity.specs.Refusals.{row, firstOf};
+ghost use Rattle.quantity.specs.Refusals.{firstOf};
 ghost use Rattle.lines.specs.Bytes.{comma};
 ghost use Rattle.lines.specs.Number.{decimal};
-ghost use Rattle.lines.specs.Line.{kindOf, firstField, numbersOf, afterCommas, textOf, bytesOf, contentRows};
-ghost use Rattle.lines.specs.Writing.{someLong, writeRows, writtenOf, putAt, bufferAfter};
+ghost use Rattle.lines.specs.Line.{kindOf, firstField, afterCommas, textOf, bytesOf, contentRows};
+ghost use Rattle.lines.specs.Writing.{textRows, writeRows, writtenOf, putAt, bufferAfter};
 
 // Puts line into buf from the place at on, and answers the next place.
 pub fn write_line(buf: &mut [u8], at: usize, line: Line) -> Written
@@ -60,7 +59,7 @@ fn content_refusal(line: Line) -> Outcome
 
 // The rows of a line's text, where room bytes follow the place.
 fn text_refusal(room: usize, line: Line) -> Outcome
-    ensures { λ r. ⌜ r ≡ firstOf (row 62 (someLong (numbersOf line)) ∷ row 66 (ltb room (length (bytesOf line))) ∷ []) ⌝ }
+    ensures { λ r. ⌜ r ≡ firstOf (textRows room line) ⌝ }
 {
     let listed = numbers_of(line);
     let count = listed.count;

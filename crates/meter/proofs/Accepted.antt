@@ -1,8 +1,7 @@
 -- What is known where no row of card, state or sample refuses, as plain facts about numbers.
 -- Assumes nothing.
-use mathlib.Core.Path.{_≡_, refl, sym, _∙_, ap}
-use mathlib.Core.List.{List, [], _∷_, _++_}
-use mathlib.Core.Bool.{Bool, true, false, not, _&&_, _||_}
+use mathlib.Core.Path.{_≡_, refl}
+use mathlib.Core.Bool.{Bool, true, false, _&&_, _||_}
 use Prim.Native.Nat.{ℕ, _+_, _*_, _^_, _≤_, _<_}
 use native.Mathlib.Nat.{mul-le-mul}
 use native.Mathlib.Omega.{arith}
@@ -10,7 +9,7 @@ use lib.Dec.{ltb, leb, eqb}
 use borrow.Author.Tests.{ltb-false, leb-true, leb-false, eqb-false, eqb-true, not-false}
 use Rattle.quantity.specs.Refusals.{outside, NoneApplies}
 use Rattle.quantity.proofs.Conditions.{neither, both, inside}
-use Rattle.quantity.specs.Units.{lastHundredth, lastDegree, largestKelvins, isColder, distanceOf}
+use Rattle.quantity.specs.Units.{lastHundredth, lastDegree, largestKelvins, distanceOf}
 use Rattle.quantity.specs.declared.units.Temperature.{Temperature}
 use Rattle.quantity.specs.declared.range.Position.{Position}
 use Rattle.quantity.specs.declared.range.Position.the-variants.{Supply, Return}

@@ -1,26 +1,24 @@
 -- What stays true along the calls from a fresh meter.
 -- Assumes nothing.
 use mathlib.Core.Path.{_≡_, refl, sym, _∙_, ap, subst}
-use mathlib.Core.List.{List, [], _∷_, _++_}
-use mathlib.Core.Bool.{Bool, true, false, cond, _||_}
+use mathlib.Core.List.{List, []}
+use mathlib.Core.Bool.{Bool, true, false, cond}
 use mathlib.Core.Logic.{_⊎_, inl, inr}
 use Prim.Native.Nat.{ℕ, _+_, _≤_, _<_}
 use native.Mathlib.Omega.{arith}
-use lib.Dec.{ltb, eqb}
+use lib.Dec.{eqb}
 use borrow.Author.Tests.{le-ltb, eq-eqb, ne-eqb}
-use Rattle.quantity.specs.Refusals.{Row, row, firstOf}
+use Rattle.quantity.specs.Refusals.{firstOf}
 use Rattle.quantity.specs.Range.{endNumber}
 use Rattle.quantity.specs.declared.refusal.Outcome.{Outcome}
 use Rattle.quantity.specs.declared.refusal.Outcome.the-variants.{Accepted, Refused}
 use Rattle.quantity.proofs.Rows.{none-applies, none-of-parts, orElse, parts, of-some-row}
 use Rattle.meter.specs.Card.{cardRows}
-use Rattle.meter.specs.State.{freshOf, zeros, stateRows, largestRegister, largestVolume, largestCount}
+use Rattle.meter.specs.State.{stateRows, largestRegister, largestVolume, largestCount}
 use Rattle.meter.specs.Step.{cardAndStateRows, countRows, readingRows, rangeRows, limitRows, sampleRows, stepOf}
 use Rattle.meter.specs.Sum.{Mark}
 use Rattle.meter.specs.Calls.{Calls, none, step}
-use Rattle.meter.specs.declared.card.Card.{Card}
 use Rattle.meter.specs.declared.state.Meter.{Meter}
-use Rattle.meter.specs.declared.state.FreshMeter.{FreshMeter}
 use Rattle.meter.specs.declared.sample.Sample.{Sample}
 use Rattle.meter.specs.declared.stepping.Stepped.{Stepped}
 use Rattle.meter.proofs.Accepted.{accepted-state, accepted-limits}

@@ -1,18 +1,16 @@
 -- What the step's definition amounts to, for an accepted sample and for a refused one.
 -- Assumes nothing.
 use mathlib.Core.Path.{_≡_, refl, sym, ap, subst}
-use mathlib.Core.List.{List, [], _∷_, _++_}
-use mathlib.Core.Bool.{Bool, true, false}
-use mathlib.Core.Logic.{_↔_}
-use Prim.Native.Nat.{ℕ, _+_, _*_, _≤_, _<_}
+use mathlib.Core.Bool.{true}
+use Prim.Native.Nat.{ℕ}
 use native.Mathlib.Omega.{arith}
-use Rattle.quantity.specs.Refusals.{Row, firstOf, NoneApplies}
+use Rattle.quantity.specs.Refusals.{firstOf, NoneApplies}
 use Rattle.quantity.specs.declared.refusal.Outcome.{Outcome}
 use Rattle.quantity.specs.declared.refusal.Outcome.the-variants.{Accepted, Refused}
 use Rattle.quantity.proofs.Rows.{none-applies, no-refusal, none-of-parts, none-together}
 use Rattle.meter.specs.Card.{cardRows}
 use Rattle.meter.specs.State.{stateRows}
-use Rattle.meter.specs.Step.{countRows, readingRows, rangeRows, limitRows, sampleRows, accepting, refusing, bySample, byCardAndState, cardAndStateRows, stepOf}
+use Rattle.meter.specs.Step.{countRows, readingRows, rangeRows, limitRows, sampleRows, accepting, bySample, byCardAndState, cardAndStateRows, stepOf}
 use Rattle.meter.specs.Calls.{isAccepted}
 use Rattle.meter.specs.Answers.{NoRowRefuses, Answers, accepts, refuses-sample, refuses-before}
 use Rattle.meter.specs.Theorems.{StepAnswers, AcceptedExactly}

@@ -1,7 +1,7 @@
 -- Counts that are capped one above their limit, so that they fit 64 bits.
 -- Assumes nothing.
 use mathlib.Core.Path.{_≡_}
-use Prim.Native.Nat.{ℕ, _+_, _≤_, _<_, min}
+use Prim.Native.Nat.{ℕ, _+_, min}
 use native.Mathlib.Omega.{arith}
 use lib.Dec.{ltb, eqb}
 use Rattle.quantity.proofs.Comparing.{same-order, same-equal}

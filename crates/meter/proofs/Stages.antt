@@ -1,6 +1,6 @@
 -- How the stages of the step's code join: the rows of one stage, before those of the stages after it.
 -- Assumes nothing.
-use mathlib.Core.Path.{_≡_, refl, sym, _∙_, ap}
+use mathlib.Core.Path.{_≡_, sym, _∙_, ap}
 use mathlib.Core.List.{List, _++_}
 use Prim.Native.Nat.{ℕ, _+_, _<_}
 use Rattle.quantity.specs.Refusals.{Row, firstOf, NoneApplies}

@@ -1,28 +1,23 @@
 -- Demand 3, proved: `register` is the statement `RegisterBounds` of specs/Theorems.antt.
 -- Assumes nothing.
 use mathlib.Core.Path.{_≡_, refl, sym, _∙_, ap, subst}
-use mathlib.Core.List.{List, [], _∷_}
-use mathlib.Core.Bool.{Bool, true, false, cond, _&&_}
+use mathlib.Core.List.{List}
+use mathlib.Core.Bool.{cond, _&&_}
 use Prim.Native.Nat.{ℕ, _+_, _*_, _≤_, _<_}
 use native.Mathlib.Nat.{le-div-iff-mul-le}
 use native.Mathlib.Omega.{arith}
-use lib.Dec.{ltb}
 use borrow.Author.Tests.{ltb-true, ltb-false}
-use Rattle.quantity.specs.Refusals.{firstOf}
 use Rattle.quantity.specs.declared.refusal.Outcome.{Outcome}
 use Rattle.quantity.specs.declared.refusal.Outcome.the-variants.{Accepted, Refused}
 use Rattle.water.specs.Table.{water}
-use Rattle.quantity.specs.Fractions.{IsFraction, plus}
+use Rattle.quantity.specs.Fractions.{plus}
 use Rattle.quantity.specs.declared.fraction.Fraction.{Fraction}
-use Rattle.water.specs.Heat.{exactHeat}
 use Rattle.water.proofs.Bounds.{water-bounded}
 use Rattle.water.proofs.ExactHeats.{heat-is-fraction, no-volume-no-heat, at-least-2000}
-use Rattle.meter.specs.Card.{cardRows}
 use Rattle.meter.specs.State.{freshOf, freshAnswer, zeros}
-use Rattle.meter.specs.Sample.{volumeOf, hasVolume, ts, tr, sampleHeat}
-use Rattle.meter.specs.Step.{accepting, refusing, stepOf}
+use Rattle.meter.specs.Sample.{volumeOf, hasVolume, sampleHeat}
 use Rattle.meter.specs.Sum.{Mark, heatSamples, nothing, sumFrom, allowanceFrom, WithinBounds}
-use Rattle.meter.specs.Calls.{Calls, none, step, isAccepted, markOf}
+use Rattle.meter.specs.Calls.{Calls, none, step, markOf}
 use Rattle.meter.specs.Answers.{NoRowRefuses, Answers, accepts, refuses-sample, refuses-before}
 use Rattle.meter.specs.Theorems.{RegisterBounds, FreshMade, FreshZeros, CardAlong, SampleHeatIsFraction, Raises}
 use Rattle.meter.specs.declared.card.Card.{Card}

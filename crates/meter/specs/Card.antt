@@ -1,7 +1,7 @@
 -- The card, document 01, "Card", and the row "Card" of the refusal table.
 use Prim.Native.Nat.{ℕ, _*_, _^_}
 use mathlib.Core.List.{List, [], _∷_}
-use mathlib.Core.Bool.{Bool, not, _&&_, _||_}
+use mathlib.Core.Bool.{not, _&&_, _||_}
 use lib.Dec.{ltb, leb}
 use Rattle.quantity.specs.Refusals.{Row, row, outside}
 use Rattle.quantity.specs.Units.{lastDegree, largestKelvins}

@@ -1,7 +1,7 @@
 -- The meter's state, document 01, "Card", and the row "State" of the refusal table.
 use Prim.Native.Nat.{ℕ, _+_, _-_, _^_}
 use mathlib.Core.List.{List, [], _∷_}
-use mathlib.Core.Bool.{Bool, _||_}
+use mathlib.Core.Bool.{_||_}
 use lib.Dec.{ltb, eqb}
 use Rattle.quantity.specs.Refusals.{Row, row, firstOf}
 use Rattle.quantity.specs.declared.refusal.Outcome as O

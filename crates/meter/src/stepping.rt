@@ -19,7 +19,7 @@ ghost use Prim.Native.Nat.{_+_, _≤_, _<_};
 ghost use lib.Dec.{ltb};
 ghost use Rattle.quantity.specs.Refusals.{firstOf};
 ghost use Rattle.meter.specs.State.{largestRegister, largestVolume, largestCount};
-ghost use Rattle.meter.specs.Step.{countRows, readingRows, rangeRows, limitRows, sampleRows, adding, refusing, bySample, stepOf};
+ghost use Rattle.meter.specs.Step.{readingRows, rangeRows, limitRows, sampleRows, adding, refusing, bySample, stepOf};
 ghost use Rattle.meter.specs.inside.Stages.{BeforeSample, CountsPass, Compared, Ranged, Heated, Fits};
 
 // The meter after a step, and no refusal or its number.

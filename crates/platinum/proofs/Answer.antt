@@ -1,10 +1,10 @@
 -- What the temperature operation's definition amounts to: the laws that callers cite, whatever the search inside.
 -- Assumes nothing.
-use mathlib.Core.Path.{_≡_, refl, sym, _∙_, ap, subst}
+use mathlib.Core.Path.{_≡_, refl, _∙_, ap, subst}
 use mathlib.Core.List.{_∷_}
 use mathlib.Core.Bool.{Bool, true, false, cond}
-use Prim.Native.Nat.{ℕ, _*_, _≤_, _<_}
-use native.Mathlib.Nat.{le-trans, le-antisymm, mul-le-mul-left, mul-le-mul-right}
+use Prim.Native.Nat.{ℕ, _*_, _≤_}
+use native.Mathlib.Nat.{le-antisymm}
 use native.Mathlib.Omega.{arith}
 use lib.Dec.{leb, ltb}
 use borrow.Author.Tests.{le-ltb, le-leb, ltb-false, leb-true}
@@ -12,7 +12,6 @@ use Rattle.quantity.specs.Refusals.{row, firstOf}
 use Rattle.quantity.specs.declared.units.Temperature.{Temperature}
 use Rattle.quantity.specs.declared.range.Position.{Position}
 use Rattle.quantity.specs.declared.range.Position.the-variants.{Alone}
-use Rattle.quantity.specs.declared.range.End.{End}
 use Rattle.quantity.specs.declared.range.End.the-variants.{Low, High}
 use Rattle.platinum.specs.Sensor.{resistanceOf, sensorOf, isUnknown}
 use Rattle.quantity.specs.Units.{lastHundredth}
@@ -23,8 +22,7 @@ use Rattle.platinum.specs.declared.sensor.Sensor.{Sensor}
 use Rattle.platinum.specs.declared.sensor.SensorField.{SensorField}
 use Rattle.platinum.specs.declared.sensor.SensorField.the-variants.{Kind, Unknown}
 use Rattle.platinum.specs.declared.reading.Measured.{Measured}
-use Rattle.platinum.specs.declared.reading.Measured.the-variants.{At, Outside, NoSensor}
-use Rattle.platinum.proofs.Growth.{grows-or-stays}
+use Rattle.platinum.specs.declared.reading.Measured.the-variants.{At, Outside}
 use Rattle.platinum.proofs.Largest.{bounded, holds, at-least}
 
 module _ (n r : ℕ) where

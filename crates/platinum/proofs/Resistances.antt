@@ -1,6 +1,6 @@
 -- What every sensor kind satisfies.
 -- Assumes nothing.
-use Prim.Native.Nat.{ℕ, _≤_, _<_}
+use Prim.Native.Nat.{_≤_, _<_}
 use native.Mathlib.Omega.{arith}
 use Rattle.platinum.specs.Sensor.{resistanceOf}
 use Rattle.platinum.specs.declared.sensor.Sensor.{Sensor}

@@ -4,8 +4,6 @@ use Prim.Native.Nat.{ℕ, zero, suc, _+_, _-_, _*_, _≤_}
 use mathlib.Core.Bool.{Bool, true, false, cond}
 use lib.Dec.{leb, ltb}
 use Rattle.quantity.specs.Units.{lastHundredth}
-use Rattle.quantity.specs.declared.units.Temperature.{Temperature}
-use Rattle.quantity.specs.declared.range.End.{End}
 use Rattle.quantity.specs.declared.range.End.the-variants.{Low, High}
 use Rattle.platinum.specs.Sensor.{resistanceOf, sensorOf}
 use Rattle.platinum.specs.declared.sensor.SensorField.{SensorField}
@@ -42,8 +40,8 @@ ofKind Unknown r = NoSensor
 unfoldable pub temperatureOf : ℕ → ℕ → Measured
 temperatureOf field r = ofKind (sensorOf field) r
 
--- The two sentences as statements about t. `Answered` and `Exactly` of specs/Theorems.antt say of `ofResistance` that it answers a temperature exactly where
--- there is one, and then the one that is the largest.
+-- The two sentences as statements about t. `Answered` and `Exactly` of specs/Theorems.antt say of `ofResistance` that it answers a temperature
+-- exactly where there is one, and then the one that is the largest.
 pub record HasTemperature (n r : ℕ) : Type 0 where
   pub from : n * W 0 ≤ scaled r
   pub to : scaled r ≤ n * W lastHundredth

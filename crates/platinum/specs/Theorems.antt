@@ -5,7 +5,7 @@ use Rattle.quantity.specs.Refusals.{firstOf}
 use Rattle.quantity.specs.Units.{lastHundredth}
 use Rattle.quantity.specs.declared.units.Temperature.{Temperature}
 use Rattle.quantity.specs.declared.range.Position.the-variants.{Alone}
-use Rattle.platinum.specs.Temperature.{W, scaled, ofResistance, temperatureOf, HasTemperature, IsTemperature}
+use Rattle.platinum.specs.Temperature.{W, ofResistance, temperatureOf, HasTemperature, IsTemperature}
 use Rattle.platinum.specs.Refusal.{refusalOf, aloneRows}
 use Rattle.platinum.specs.declared.reading.Measured.the-variants.{At}
 

@@ -1,7 +1,7 @@
 -- Laws of the distance of two temperatures.
 -- Assumes nothing.
 use mathlib.Core.Path.{_≡_, ap}
-use Prim.Native.Nat.{ℕ, _-_, _≤_, min, max}
+use Prim.Native.Nat.{ℕ, _-_, _≤_}
 use native.Mathlib.Omega.{arith}
 use Rattle.quantity.specs.Units.{distanceOf}
 use Rattle.quantity.specs.declared.units.Temperature.{Temperature}

@@ -1,6 +1,6 @@
 -- A range's rule by a computed test: a test that passes at each number of a span, and the law that gives it at one of them.
 -- Assumes nothing.
-use mathlib.Core.Path.{_≡_, _∙_, subst, subst₂, sym}
+use mathlib.Core.Path.{_∙_, subst, subst₂, sym}
 use mathlib.Core.Bool.{Bool, true, false, _&&_}
 use Prim.Native.Nat.{ℕ, zero, suc, _+_, _<_}
 use native.Mathlib.Nat.{add-zero, zero-add, add-suc, suc-add, le-of-suc-le-suc, not-suc-le-zero}

@@ -41,7 +41,7 @@ smaller x y = cond (isAtMost x y) x y
 abbrev pub Same : Fraction → Fraction → Type 0
 Same x y = x .numerator * y .denominator ≡ y .numerator * x .denominator
 
--- r equals x, and its lower number is above zero
+-- r equals x, and the lower number of r is above zero
 pub record Represents (r x : Fraction) : Type 0 where
   pub is-fraction : IsFraction r
   pub same : Same r x

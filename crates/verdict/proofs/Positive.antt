@@ -11,13 +11,13 @@ use Rattle.verdict.specs.declared.class.Figures.{Figures}
 use Rattle.verdict.specs.declared.point.TestPoint.{TestPoint}
 use Rattle.verdict.proofs.Ranges.{ranges}
 
-record Pieces (f : Figures) (p : TestPoint) : Type 0 where
+record PiecesAreFractions (f : Figures) (p : TestPoint) : Type 0 where
   calculator : IsFraction (calculatorLimit p)
   pair : IsFraction (pairLimit p)
   flow-sensor : IsFraction (flowSensorLimit f p)
   complete : IsFraction (completeLimit f p)
 
-pieces : (f : Figures) (p : TestPoint) → 0 < p .difference .0 → 0 < p .q → Pieces f p
+pieces : (f : Figures) (p : TestPoint) → 0 < p .difference .0 → 0 < p .q → PiecesAreFractions f p
 unfolding completeLimit flowSensorLimit flowSensorSum pairLimit calculatorLimit
 pieces f p d q =
     let c : IsFraction (calculatorLimit p) = of-plus _ _ (lit< tt) d in

@@ -1,14 +1,9 @@
 -- Where no row applies, the heat of a volume is the floor of its exact heat: for callers that have tried the rows before.
 -- Assumes nothing.
-use mathlib.Core.Path.{_≡_}
-use mathlib.Core.Bool.{false}
-use Prim.Native.Nat.{ℕ, _*_, _≤_}
+use Prim.Native.Nat.{_*_}
 use native.Mathlib.Omega.{arith}
 use borrow.Author.Tests.{le-ltb}
-use Rattle.quantity.specs.declared.units.Temperature.{Temperature}
-use Rattle.quantity.specs.Refusals.{outside}
 use Rattle.quantity.proofs.Rows.{no-refusal}
-use Rattle.water.specs.Table.{Table}
 use Rattle.water.specs.Heat.{heatRows, heatOf}
 use Rattle.water.specs.Theorems.{HeatAccepted}
 

@@ -1,6 +1,6 @@
 -- H and V of a bounded table: what the register's bounds and the 64 bits of the code rest on.
 -- Assumes nothing.
-use Prim.Native.Nat.{_+_, _-_, _*_, _≤_, _<_}
+use Prim.Native.Nat.{_+_, _-_, _*_, _≤_}
 use native.Mathlib.Omega.{arith}
 use Rattle.quantity.specs.declared.units.Temperature.{Temperature}
 use Rattle.water.specs.Table.{Table}

@@ -1,13 +1,8 @@
 -- `lines::writing::text_refusal` meets its contract: the two rows in order.
 -- Assumes nothing.
-use mathlib.Core.List.{_∷_, []}
-use lib.ListN.{length}
-use lib.Dec.{ltb}
 use borrow.Author.Needs.{needs}
-use Rattle.quantity.specs.Refusals.{row}
 use Rattle.quantity.proofs.Rows.{accumulated}
-use Rattle.lines.specs.Line.{numbersOf, bytesOf}
-use Rattle.lines.specs.Writing.{someLong}
+use Rattle.lines.specs.Writing.{textRows}
 use Rattle.lines.proofs.Listing.{listed-length, listed-few, listed-size}
 use Rattle.lines.proofs.writing.text_refusal.Statement.{statement}
 use Rattle.lines.proofs.writing.text_refusal.Tie as tie
@@ -54,7 +49,7 @@ returns c =
     let n = c .before .before .before .before .before .before .before .before .numbers-of in
     let e = listed-size _ _ (n .ensures) _ _ (c .before .before .before .before .before .before .first-length .ensures .0) (c .before .before .before .before .fields-length .ensures .0) in
     simp (c .or-row2 .ensures, c .before .or-row .ensures, c .before .before .has-long .ensures, n .ensures .are, e)
-    (accumulated (row 62 (someLong (numbersOf (s .args .line))) ∷ row 66 (ltb (s .args .room) (length (bytesOf (s .args .line)))) ∷ []))
+    (accumulated (textRows (s .args .room) (s .args .line)))
 
 pub text-refusal-spec : {M : Type 1} → statement M
 text-refusal-spec =

@@ -1,8 +1,7 @@
 -- `meter::stepping::step` meets its contract: by the outcome of the rows of card and state.
 -- Assumes nothing.
 use borrow.Author.Needs.{needs}
-use mathlib.Core.Path.{sym, _∙_, ap}
-use mathlib.Core.List.{_++_}
+use mathlib.Core.Path.{sym, _∙_}
 use Rattle.quantity.proofs.Rows.{none-of-parts}
 use Rattle.meter.specs.Card.{cardRows}
 use Rattle.meter.specs.State.{stateRows}

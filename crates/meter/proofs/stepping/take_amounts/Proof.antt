@@ -1,9 +1,8 @@
 -- `meter::stepping::take_amounts` meets its contract: by the outcome of the last rows.
 -- Assumes nothing.
 use borrow.Author.Needs.{needs}
-use mathlib.Core.Path.{sym, _∙_, ap}
-use Rattle.quantity.specs.Refusals.{firstOf}
-use Rattle.meter.specs.Step.{limitRows, bySample}
+use mathlib.Core.Path.{sym, _∙_}
+use Rattle.meter.specs.Step.{limitRows}
 use Rattle.meter.proofs.Accepted.{accepted-limits}
 use Rattle.meter.proofs.Stages.{passed, countable}
 use Rattle.meter.proofs.stepping.take_amounts.Statement.{statement}

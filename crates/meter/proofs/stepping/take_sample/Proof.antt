@@ -1,7 +1,6 @@
 -- `meter::stepping::take_sample` meets its contract: by the outcome of the rows of its counts.
 -- Assumes nothing.
 use borrow.Author.Needs.{needs}
-use mathlib.Core.Path.{sym, _∙_, ap}
 use mathlib.Core.List.{_++_}
 use Rattle.meter.specs.Step.{countRows, readingRows, rangeRows, limitRows}
 use Rattle.meter.proofs.Stages.{passed, goes-on, stops, countable}

@@ -1,14 +1,11 @@
 -- `platinum::curve::largest_at_most` meets its contract. The loop's invariant: the share is reached at `low`, and what lies above
 -- `high` can be left out. Each turn leaves fewer numbers between the two.
 -- Assumes nothing.
-use mathlib.Core.Path.{_≡_, refl, sym, _∙_, ap}
-use mathlib.Core.Bool.{false}
-use Prim.Native.Nat.{ℕ, _-_, _/_, _≤_, _<_}
-use native.Mathlib.Nat.{le-refl, le-antisymm}
+use mathlib.Core.Path.{_≡_, refl, sym, _∙_}
+use Prim.Native.Nat.{_-_, _≤_}
 use native.Mathlib.Omega.{arith}
-use lib.Dec.{leb}
-use mathlib.Core.Path.{_≡_, refl, sym, _∙_, subst}
-use Prim.Native.Nat.{ℕ, _-_, _≤_}
+use mathlib.Core.Path.{_≡_, refl, sym, _∙_}
+use Prim.Native.Nat.{_-_, _≤_}
 use native.Mathlib.Omega.{arith}
 use Rattle.quantity.specs.Units.{lastHundredth}
 use Rattle.platinum.specs.Temperature.{W, largest}

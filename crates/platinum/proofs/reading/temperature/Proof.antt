@@ -1,8 +1,7 @@
 -- `platinum::reading::temperature` meets its contract: by the kind that the field names.
 -- Assumes nothing.
 use borrow.Author.Needs.{needs}
-use mathlib.Core.Path.{_≡_, sym, _∙_}
-use Rattle.platinum.specs.Sensor.{resistanceOf, sensorOf}
+use mathlib.Core.Path.{sym, _∙_}
 use Rattle.platinum.specs.Temperature.{temperatureOf}
 use Rattle.platinum.proofs.Answer.{by-itself}
 use Rattle.platinum.proofs.Resistances.{resistance-range}

@@ -2,7 +2,6 @@
 -- Assumes nothing.
 use borrow.Author.Needs.{needs}
 use native.Mathlib.Omega.{arith}
-use Prim.Native.Nat.{ℕ}
 use Rattle.quantity.proofs.Columns.{Room, room, by-digits}
 use Rattle.quantity.proofs.product.wide_product.Statement.{statement}
 use Rattle.quantity.proofs.product.wide_product.Tie as tie
