@@ -28,8 +28,8 @@ supplyOf c s = temperatureOf (c .sensor) (s .«supply_reading»)
 abbrev pub returnOf : Card → Sample → Measured
 returnOf c s = temperatureOf (c .sensor) (s .«return_reading»)
 
--- A default where a reading has no temperature, so that the definitions below speak of any sample: 0 °C. No accepted sample has it: rows 32
--- and 33 refuse such a sample (`AcceptedHasTemperatures` of specs/Theorems.antt).
+-- A default where a reading has no temperature, so that the definitions below speak of any sample: 0 °C. No accepted sample has it:
+-- `readingRows` refuse such a sample (`AcceptedHasTemperatures` of specs/Theorems.antt).
 abbrev pub missingTemperature : Temperature
 missingTemperature = record { 0 = 0 }
 

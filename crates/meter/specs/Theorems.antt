@@ -61,7 +61,7 @@ CardAlong = (m : Meter) (ks : List Mark) (z : Meter) → Calls m ks z → z .car
 abbrev pub SampleHeatIsFraction : Type 0
 SampleHeatIsFraction = (c : Card) (s : Sample) → IsFraction (sampleHeat c s)
 
--- but no such sample is accepted: both readings of one that rows 32 and 33 do not refuse have a temperature
+-- but no such sample is accepted: both readings of one that `readingRows` do not refuse have a temperature
 pub record HasTemperatures (c : Card) (s : Sample) : Type 0 where
   pub supply : (t : Temperature) × (supplyOf c s ≡ At t)
   pub returned : (t : Temperature) × (returnOf c s ≡ At t)

@@ -47,7 +47,7 @@ fn is_too_much(pulses: u64, ml_per_pulse: u64) -> bool
     1000000 < pulses * ml_per_pulse
 }
 
-// Rows 32 and 33.
+// Rows 32 and 70 of the supply, then 33 and 71 of the return.
 pub(crate) fn reading_refusal(supply: Measured, returned: Measured) -> Outcome
     ensures { λ r. ⌜ r ≡ firstOf (endRows Supply supply ++ endRows Return returned) ⌝ }
 {

@@ -1,5 +1,6 @@
 -- The refusals of the temperature operation, document 01's row "Temperature alone | 12; 32", and the rows "32 supply, 33 return has
--- no temperature" of the sample.
+-- no temperature" of the sample, as document 02, request 1, changed them: "32 and 33 keep their meaning below 0.00 °C", "70 supply and 71
+-- return above 180.00 °C, in the places of 32 and 33; the temperature and coefficient operations use them too".
 use Prim.Native.Nat.{ℕ}
 use mathlib.Core.List.{List, [], _∷_}
 use mathlib.Core.Bool.{Bool, true, false}
@@ -33,13 +34,13 @@ hasNone High (Outside High) = true
 hasNone Low NoSensor = true
 hasNone High NoSensor = false
 
--- "has no temperature", for each end of the range
+-- "has no temperature", for each end of the range: the high end's row stands in the place of the low end's, behind it
 abbrev pub endRows : Position → Measured → List Row
 endRows p m =
     row (endNumber p Low) (hasNone Low m)
     ∷ row (endNumber p High) (hasNone High m)
     ∷ []
 
--- "Temperature alone": 12; 32. The temperature operation's `refusalOf Alone` is the first of these (`FirstRow` of specs/Theorems.antt)
+-- "Temperature alone": 12; 32, and 70 in its place. The temperature operation's `refusalOf Alone` is the first of these (`FirstRow` of specs/Theorems.antt)
 abbrev pub aloneRows : ℕ → ℕ → List Row
 aloneRows field r = row 12 (isUnknown (sensorOf field)) ∷ endRows Alone (temperatureOf field r)

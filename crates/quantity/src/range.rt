@@ -15,13 +15,20 @@ pub enum End {
     High,
 }
 
-// The number of a missed end. Both ends of a position have one number.
+// The number of a missed end. A position has one for each.
 pub fn end_number(position: Position, end: End) -> u64
     ensures { λ r. ⌜ r ≡ endNumber position end ⌝ }
 {
-    match position {
-        Position::Alone => 32,
-        Position::Supply => 32,
-        Position::Return => 33,
+    match end {
+        End::Low => match position {
+            Position::Alone => 32,
+            Position::Supply => 32,
+            Position::Return => 33,
+        },
+        End::High => match position {
+            Position::Alone => 70,
+            Position::Supply => 70,
+            Position::Return => 71,
+        },
     }
 }
