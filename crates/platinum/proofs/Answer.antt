@@ -99,7 +99,7 @@ kind-rows p true high t = refl
 kind-rows p false true t = refl
 kind-rows p false false t = refl
 
-by-rows : (p : Position) (k : SensorField) (r : ℕ) → RowsSay p (ofKind k r) (isUnknown k)
+pub by-rows : (p : Position) (k : SensorField) (r : ℕ) → RowsSay p (ofKind k r) (isUnknown k)
 unfolding refusalOf firstOf ofResistance test
 by-rows p (Kind s) r =
     let n = resistanceOf s in

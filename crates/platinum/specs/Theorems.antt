@@ -1,12 +1,21 @@
 -- What is proved of the temperature's definition, statement by statement. Each is proved in proofs/ under its name in small letters.
 use mathlib.Core.Path.{_≡_}
+use mathlib.Core.Logic.{_↔_}
 use Prim.Native.Nat.{ℕ, _+_, _*_, _≤_, _<_}
 use Rattle.quantity.specs.Refusals.{firstOf}
+use Rattle.quantity.specs.Range.{endNumber}
 use Rattle.quantity.specs.Units.{lastHundredth}
 use Rattle.quantity.specs.declared.units.Temperature.{Temperature}
+use Rattle.quantity.specs.declared.refusal.Outcome.{Outcome}
+use Rattle.quantity.specs.declared.refusal.Outcome.the-variants.{Accepted, Refused}
+use Rattle.quantity.specs.declared.range.Position.{Position}
 use Rattle.quantity.specs.declared.range.Position.the-variants.{Alone}
-use Rattle.platinum.specs.Temperature.{W, ofResistance, temperatureOf, HasTemperature, IsTemperature}
-use Rattle.platinum.specs.Refusal.{refusalOf, aloneRows}
+use Rattle.quantity.specs.declared.range.End.the-variants.{Low, High}
+use Rattle.platinum.specs.Sensor.{resistanceOf, sensorOf}
+use Rattle.platinum.specs.Temperature.{W, scaled, ofResistance, temperatureOf, HasTemperature, IsTemperature}
+use Rattle.platinum.specs.Refusal.{refusalOf, endRows, aloneRows}
+use Rattle.platinum.specs.declared.sensor.Sensor.{Sensor}
+use Rattle.platinum.specs.declared.sensor.SensorField.the-variants.{Kind}
 use Rattle.platinum.specs.declared.reading.Measured.the-variants.{At}
 
 -- W grows on 0..18000, so that a larger share of the resistance at 0 °C is a higher temperature
@@ -45,3 +54,20 @@ LargerReading =
 -- the number of an answer by itself is that of the first row of "Temperature alone" that applies
 abbrev pub FirstRow : Type 0
 FirstRow = (field r : ℕ) → refusalOf Alone (temperatureOf field r) ≡ firstOf (aloneRows field r)
+
+-- "A temperature now answers which end of its range it missed" (document 02, request 1): the number of a reading r, of a sensor with n ohm at
+-- 0 °C, is the high end's exactly when n×W(18000) < r×10^10, the low end's exactly when r×10^10 < n×W(0), and there is none otherwise
+pub record SaysEnd (p : Position) (n r : ℕ) (o : Outcome) : Type 0 where
+  pub high : (o ≡ Refused (endNumber p High)) ↔ (n * W lastHundredth < scaled r)
+  pub low : (o ≡ Refused (endNumber p Low)) ↔ (scaled r < n * W 0)
+  pub none : (o ≡ Accepted) ↔ HasTemperature n r
+
+-- so says the operation's answer at every place of the check, for any sensor and any reading
+abbrev pub AnswerSaysEnd : Type 0
+AnswerSaysEnd =
+    (p : Position) (field r : ℕ) (s : Sensor) → sensorOf field ≡ Kind s → SaysEnd p (resistanceOf s) r (refusalOf p (temperatureOf field r))
+
+-- and so do the two rows that stand for it among a sample's
+abbrev pub RowsSayEnd : Type 0
+RowsSayEnd =
+    (p : Position) (field r : ℕ) (s : Sensor) → sensorOf field ≡ Kind s → SaysEnd p (resistanceOf s) r (firstOf (endRows p (temperatureOf field r)))

@@ -3,6 +3,7 @@ pub mod Columns
 pub mod Comparing
 pub mod Conditions
 pub mod Distance
+pub mod Ends
 pub mod Floors
 pub mod Fractions
 pub mod Rows

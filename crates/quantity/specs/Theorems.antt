@@ -1,8 +1,12 @@
--- What is proved of the refusal table, statement by statement. Each is proved in proofs/Rows.antt under its name in small letters.
+-- What is proved of the refusal table and of the numbers of a missed range, statement by statement. Each is proved under its name in small
+-- letters, in proofs/Rows.antt or, the last, in proofs/Ends.antt.
 use mathlib.Core.Path.{_≡_}
 use mathlib.Core.List.{List, [], _∷_}
 use mathlib.Core.Logic.{_↔_}
+use Rattle.quantity.specs.Range.{endNumber}
 use Rattle.quantity.specs.Refusals.{Row, firstOf, NoneApplies, orRow}
+use Rattle.quantity.specs.declared.range.End.{End}
+use Rattle.quantity.specs.declared.range.Position.{Position}
 use Rattle.quantity.specs.declared.refusal.Outcome.{Outcome}
 use Rattle.quantity.specs.declared.refusal.Outcome.the-variants.{Accepted}
 
@@ -18,3 +22,7 @@ Accumulated = (rs : List Row) → after Accepted rs ≡ firstOf rs
 -- no refusal is given exactly where no row applies
 abbrev pub NoRefusalExactly : Type 0
 NoRefusalExactly = (rs : List Row) → (firstOf rs ≡ Accepted) ↔ NoneApplies rs
+
+-- A number tells the end that was missed, whatever the places of the check: no place gives for one end what any gives for the other.
+abbrev pub TellsEnd : Type 0
+TellsEnd = (p q : Position) (e f : End) → endNumber p e ≡ endNumber q f → e ≡ f
