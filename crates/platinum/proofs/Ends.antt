@@ -51,6 +51,13 @@ other-end p h =
     omega arith
 
 module _ (p : Position) (n r : ℕ) where
+  says-none : HasTemperature n r → SaysEnd p n r Accepted
+  says-none h = record {
+    high = (λ e. absurd (let z : _≡_ {A = ℕ} 0 1 = cc in omega arith), λ g. absurd (omega (arith, h .to)));
+    low = (λ e. absurd (let z : _≡_ {A = ℕ} 0 1 = cc in omega arith), λ g. absurd (omega (arith, h .from)));
+    none = (λ e. h, λ g. refl);
+  }
+
   says-low : scaled r < n * W 0 → SaysEnd p n r (Refused (endNumber p Low))
   says-low h = record {
     high = (λ e. absurd (other-end p e), λ g. absurd (omega (arith, apart n)));
@@ -63,13 +70,6 @@ module _ (p : Position) (n r : ℕ) where
     high = (λ e. h, λ g. refl);
     low = (λ e. absurd (other-end p (sym e)), λ g. absurd (omega (arith, apart n)));
     none = (λ e. absurd (let z : _≡_ {A = ℕ} 0 1 = cc in omega arith), λ g. absurd (omega (arith, g .to)));
-  }
-
-  says-none : HasTemperature n r → SaysEnd p n r Accepted
-  says-none h = record {
-    high = (λ e. absurd (let z : _≡_ {A = ℕ} 0 1 = cc in omega arith), λ g. absurd (omega (arith, h .to)));
-    low = (λ e. absurd (let z : _≡_ {A = ℕ} 0 1 = cc in omega arith), λ g. absurd (omega (arith, h .from)));
-    none = (λ e. h, λ g. refl);
   }
 
   -- by the two tests of `ofResistance`

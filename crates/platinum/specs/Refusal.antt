@@ -34,13 +34,13 @@ hasNone High (Outside High) = true
 hasNone Low NoSensor = true
 hasNone High NoSensor = false
 
--- "has no temperature", for each end of the range: the high end's row stands in the place of the low end's, behind it
+-- "has no temperature", for each end of the range: the high end's row comes right after the low end's
 abbrev pub endRows : Position → Measured → List Row
 endRows p m =
     row (endNumber p Low) (hasNone Low m)
     ∷ row (endNumber p High) (hasNone High m)
     ∷ []
 
--- "Temperature alone": 12; 32, and 70 in its place. The temperature operation's `refusalOf Alone` is the first of these (`FirstRow` of specs/Theorems.antt)
+-- "Temperature alone": 12; 32, then 70. The temperature operation's `refusalOf Alone` is the first of these (`FirstRow` of specs/Theorems.antt)
 abbrev pub aloneRows : ℕ → ℕ → List Row
 aloneRows field r = row 12 (isUnknown (sensorOf field)) ∷ endRows Alone (temperatureOf field r)

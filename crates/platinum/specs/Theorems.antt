@@ -67,7 +67,7 @@ abbrev pub AnswerSaysEnd : Type 0
 AnswerSaysEnd =
     (p : Position) (field r : ℕ) (s : Sensor) → sensorOf field ≡ Kind s → SaysEnd p (resistanceOf s) r (refusalOf p (temperatureOf field r))
 
--- and so do the two rows that stand for it among a sample's
+-- and so do the two rows that stand for this answer among the rows of a sample
 abbrev pub RowsSayEnd : Type 0
 RowsSayEnd =
     (p : Position) (field r : ℕ) (s : Sensor) → sensorOf field ≡ Kind s → SaysEnd p (resistanceOf s) r (firstOf (endRows p (temperatureOf field r)))

@@ -1,4 +1,4 @@
--- The numbers of the two ends of a temperature's range are apart: below 70, and from 70 on.
+-- The numbers of the two ends of a temperature's range are apart: the low end's are below 70, the high end's from 70 on.
 -- Assumes nothing.
 use mathlib.Core.Path.{refl}
 use Prim.Native.Nat.{_≤_, _<_}

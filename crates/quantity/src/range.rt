@@ -1,4 +1,4 @@
-// The refusal number where a temperature misses its range, by the place of the check.
+// The refusal number where a temperature misses its range, by the place of the check and the end that was missed.
 ghost use mathlib.Core.Path.{_≡_};
 ghost use Rattle.quantity.specs.Range.{endNumber};
 
@@ -15,7 +15,7 @@ pub enum End {
     High,
 }
 
-// The number of a missed end. A position has one for each.
+// The number of a missed end. Each position has one for either end.
 pub fn end_number(position: Position, end: End) -> u64
     ensures { λ r. ⌜ r ≡ endNumber position end ⌝ }
 {

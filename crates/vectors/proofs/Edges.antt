@@ -1,4 +1,4 @@
--- Document 01's marked (†) edges, computed by the definitions.
+-- Document 01's marked (†) edges, one of them as document 02 changed it, computed by the definitions.
 -- Assumes nothing.
 use mathlib.Core.Path.{refl}
 use Rattle.quantity.specs.Range.{endNumber}

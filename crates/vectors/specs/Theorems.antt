@@ -22,8 +22,8 @@ abbrev pub gives : ℕ → Measured
 gives t = At (record { 0 = t })
 
 pub record MarkedEdges : Type 0 where
-  -- "Pt 100: r 1000000 gives t 0; 999999 gives 32. 1684783 gives 18000; 1684784 gives 32.", of which "the edge 1684784 of document 01
-  -- becomes 70" (document 02, request 1)
+  -- "Pt 100: r 1000000 gives t 0; 999999 gives 32. 1684783 gives 18000; 1684784 gives 32." Document 02, request 1: "The edge 1684784
+  -- of document 01 becomes 70."
   pub lowest : pt100 1000000 ≡ gives 0
   pub below : pt100Refusal 999999 ≡ Refused 32
   pub highest : pt100 1684783 ≡ gives 18000

@@ -16,7 +16,8 @@ unfoldable pub flooredCoefficient : Table → Temperature → Temperature → Te
 flooredCoefficient w ts tr measured =
     10 ^ 11 * (enthalpyAt w ts - enthalpyAt w tr) / (volumeAt w measured * distanceOf ts tr .0)
 
--- the row "Coefficient" of the refusal table: "11; 32, 33 t above 18000; 36; 37 if equal", with 70 and 71 for 32 and 33
+-- the row "Coefficient" of the refusal table: "11; 32, 33 t above 18000; 36; 37 if equal", with 70 and 71 in the places of
+-- 32 and 33 (document 02, request 1)
 abbrev pub coefficientRows : Table → Temperature → Temperature → ℕ → List Row
 coefficientRows w ts tr place = pairRows w ts tr place ++ (row 37 (areEqual ts tr) ∷ [])
 

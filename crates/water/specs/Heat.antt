@@ -17,8 +17,8 @@ use Rattle.water.specs.declared.answers.Heat.{Heat}
 unfoldable pub exactHeat : Table → ℕ → Temperature → Temperature → Temperature → Fraction
 exactHeat w u warm cold measured = 1000000 * u * (enthalpyAt w warm - enthalpyAt w cold) over volumeAt w measured
 
--- document 01 has no row for this operation by itself, so it takes the paper's numbers: those of the coefficient up to 36,
--- then 31 of the sample, "u above 1000000"
+-- neither paper has a row for this operation by itself, so it takes the papers' numbers: those of the coefficient up to 36, 70 and 71
+-- among them, then 31 of the sample, "u above 1000000"
 abbrev pub heatRows : Table → ℕ → Temperature → Temperature → ℕ → List Row
 heatRows w u ts tr place = pairRows w ts tr place ++ (row 31 (ltb 1000000 u) ∷ [])
 
