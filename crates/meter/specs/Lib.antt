@@ -1,4 +1,5 @@
 -- What the contracts of this crate, and of those above it, cite; the statements of its theorems; and, apart, what only its inside cites.
+pub mod Edition
 pub mod Card
 pub mod State
 pub mod Sample

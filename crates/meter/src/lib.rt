@@ -1,11 +1,15 @@
 // The meter: its card, its state, and the step that takes one sample (document 01, "Card" and "Meter's step").
 mod card;
+mod edition;
 mod sample;
 mod state;
 mod stepping;
 
 pub use card::CARD_FIELDS;
 pub use card::Card;
+pub use edition::LAST_EDITION;
+pub use edition::is_other_edition;
+pub use edition::keeps_seconds;
 pub use sample::Sample;
 pub use state::FreshMeter;
 pub use state::Meter;
