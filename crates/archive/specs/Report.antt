@@ -15,6 +15,7 @@ use Rattle.archive.specs.declared.answer.Audited.the-variants as A
 abbrev pub auditLimit : ℕ
 auditLimit = 65536
 
+-- "The program's R line has the same fields in every edition."
 unfoldable pub ofAudited : Audited → Report
 ofAudited (A.Accepted m) = R.EndState (m .card .serial) (m .accepted) (m .refused) (m .register) (m .volume)
 ofAudited (A.Refused number line) = R.Refusal number line

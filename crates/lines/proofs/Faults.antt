@@ -15,8 +15,8 @@ use Rattle.quantity.specs.declared.refusal.Outcome.{Outcome}
 use Rattle.quantity.specs.declared.refusal.Outcome.the-variants.{Accepted, Refused}
 use Rattle.quantity.proofs.Comparing.{same-equal}
 use Rattle.lines.specs.Bytes.{lineFeed, comma}
+use Rattle.lines.specs.Number.{someLong}
 use Rattle.lines.specs.Reading.{isSame, untilEnd, isEnded, sizeOf, withFirst, split, fieldsIn, firstIn, othersIn, areNumbers, numbersIn, isMisshapen, shapeRows}
-use Rattle.lines.specs.Writing.{someLong}
 use Rattle.lines.specs.inside.Parts.{Lettered}
 use Rattle.lines.proofs.Splitting.{Parted, parted, split-parted, length-parted}
 use Rattle.lines.proofs.Shape.{lineBytes, shape-forth}

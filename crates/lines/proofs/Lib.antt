@@ -5,6 +5,7 @@ pub mod Exactness
 mod Faults
 mod FieldLaws
 mod Lent
+pub mod LineBytes
 pub mod LineLaws
 mod Listing
 pub mod Openings
@@ -12,6 +13,7 @@ mod Puts
 mod ReaderRows
 pub mod Reports
 mod Runs
+mod Shown
 pub mod RoundTrips
 pub mod Same
 pub mod Shape

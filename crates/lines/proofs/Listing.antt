@@ -1,38 +1,38 @@
--- A line's numbers one after the other: how many bytes they take, whether one is too long, and their text as it is put together.
+-- A line's numbers one after the other: how many bytes they take, whether one is too large, and their text as it is put together.
 -- Assumes nothing.
 use mathlib.Core.Path.{_≡_, refl, sym, ap, _∙_, subst}
 use mathlib.Core.Bool.{true, false}
 use mathlib.Core.List.{List, [], _∷_, _++_, append-assoc, append-nil, map}
-use Prim.Native.Nat.{ℕ, suc, _+_, _^_, _≤_, _<_}
+use Prim.Native.Nat.{ℕ, suc, _+_, _-_, _^_, _≤_, _<_}
 use native.Mathlib.Omega.{arith}
 use native.Mathlib.Numerals.{add-one}
 use lib.ListN.{length, getD, take, drop, set, length-append, length-set, drop-of-length-le}
-use lib.Seq.{drop-cons, take-suc, take-suc-set, length-take-le}
+use lib.Seq.{drop-cons, take-suc, take-suc-set, take-take, take-add, drop-at, length-take-le}
 use borrow.Author.Tests.{le-leb, lt-leb}
 use Rattle.lines.specs.Bytes.{lineFeed, comma}
-use Rattle.lines.specs.Number.{decimal, isLong, mostDigits, mostDigits64}
-use Rattle.lines.specs.Line.{kindOf, firstField, numbersOf, afterCommas, textOf, bytesOf}
-use Rattle.lines.specs.Writing.{someLong, putAt}
-use Rattle.lines.specs.inside.Parts.{mostBytes, AreListed, mostNumbers}
-use Rattle.lines.specs.declared.line.Line.{Line}
+use Rattle.lines.specs.Number.{decimal, mostDigits64, someFrom}
+use Rattle.lines.specs.Line.{kindOf, firstField, allNumbersOf, numbersOf, lackedOf, afterCommas, textOf, bytesOf}
+use Rattle.lines.specs.Writing.{putAt}
+use Rattle.lines.specs.inside.Parts.{mostBytes, LineListed, mostNumbers}
+use Rattle.lines.specs.declared.line.EditionLine.{EditionLine}
 use Rattle.lines.specs.declared.listed.Listed.{Listed}
 use Rattle.lines.proofs.Decimals.{decimal-short}
 use Rattle.lines.proofs.Puts.{Wrote, wrote-none, wrote-one, wrote-length, wrote-room, wrote-more, wrote-set}
 
--- ---- a number that is too long
+-- ---- a number that is n or more
 
-module _ (ns : List ℕ) (i : ℕ) where
-  pub long-here : i < length ns → 10 ^ mostDigits ≤ getD ns i 0 → someLong (drop i ns) ≡ true
-  unfolding someLong isLong
-  long-here h g = rw (drop-cons ns i 0) (simp (le-leb (10 ^ mostDigits) (getD ns i 0) g))
+module _ (n : ℕ) (ns : List ℕ) (i : ℕ) where
+  pub from-here : i < length ns → n ≤ getD ns i 0 → someFrom n (drop i ns) ≡ true
+  unfolding someFrom
+  from-here h g = rw (drop-cons ns i 0) (simp (le-leb n (getD ns i 0) g))
 
-  pub long-later : i < length ns → getD ns i 0 < 10 ^ mostDigits → someLong (drop i ns) ≡ someLong (drop (i + 1) ns)
-  unfolding someLong isLong
-  long-later h g = rw (add-one, drop-cons ns i 0) (simp (lt-leb (10 ^ mostDigits) (getD ns i 0) g))
+  pub from-later : i < length ns → getD ns i 0 < n → someFrom n (drop i ns) ≡ someFrom n (drop (i + 1) ns)
+  unfolding someFrom
+  from-later h g = rw (add-one, drop-cons ns i 0) (simp (lt-leb n (getD ns i 0) g))
 
-  pub long-none : length ns ≤ i → someLong (drop i ns) ≡ false
-  unfolding someLong
-  long-none h = rw (drop-of-length-le ns h)
+  pub from-none : length ns ≤ i → someFrom n (drop i ns) ≡ false
+  unfolding someFrom
+  from-none h = rw (drop-of-length-le ns h)
 
 -- ---- how many bytes
 
@@ -140,19 +140,43 @@ pub list-more : (ns all : List ℕ) (i : ℕ) → i < length ns → i < length a
 list-more ns all i h k e =
     rw add-one (take-suc-set all i (getD ns i 0) k ∙ ap (λ (l : List ℕ). l ++ (getD ns i 0 ∷ [])) e ∙ sym (take-suc ns i 0 h))
 
-module _ (line : Line) (l : Listed) (is : AreListed (numbersOf line) l) where
-  pub listed-length : l .count ≡ length (take (l .count) (l .numbers))
-  listed-length = sym (length-take-le (l .count) (l .numbers) (omega (arith, is .few, is .long)))
+-- a part from s on of the first c
+pub drop-taken : (s c : ℕ) (l : List ℕ) → s ≤ c → s ≤ length l → take (c - s) (drop s l) ≡ drop s (take c l)
+drop-taken s c l h k =
+    let sum : s + (c - s) ≡ c = omega arith in
+    sym (ap (λ (n : ℕ). drop s (take n l)) (sym sum) ∙ ap (drop s) (take-add s (c - s) l) ∙ drop-at (take s l) (take (c - s) (drop s l)) s (length-take-le s l k))
 
-  pub listed-few : length (take (l .count) (l .numbers)) ≤ mostNumbers
-  listed-few = omega (arith, is .few, listed-length)
+module _ (line : EditionLine) (l : Listed) (is : LineListed line l) where
+  within : l .shown ≤ length (l .numbers)
+  within = omega (arith, is .few, is .long, is .shown-few)
 
-  pub listed-text : (letter : ℕ) → firstField (kindOf line) ≡ letter ∷ [] → textOf (letter ∷ []) (take (l .count) (l .numbers)) ≡ bytesOf line
+  -- the numbers that the line has
+  pub shown-are : take (l .shown) (l .numbers) ≡ numbersOf line
+  unfolding numbersOf
+  shown-are =
+      let first : take (l .shown) (take (l .count) (l .numbers)) ≡ take (l .shown) (l .numbers) =
+      take-take (l .shown) (l .count) (l .numbers) (is .shown-few) in
+      sym first ∙ ap (take (l .shown)) (is .are) ∙ ap (λ (n : ℕ). take n (allNumbersOf line)) (is .shown-is)
+
+  -- and those that its edition lacks
+  pub lacked-are : take (l .count - l .shown) (drop (l .shown) (l .numbers)) ≡ lackedOf line
+  unfolding lackedOf
+  lacked-are =
+      drop-taken (l .shown) (l .count) (l .numbers) (is .shown-few) within
+      ∙ ap (drop (l .shown)) (is .are) ∙ ap (λ (n : ℕ). drop n (allNumbersOf line)) (is .shown-is)
+
+  pub listed-length : l .shown ≡ length (take (l .shown) (l .numbers))
+  listed-length = sym (length-take-le (l .shown) (l .numbers) within)
+
+  pub listed-few : length (take (l .shown) (l .numbers)) ≤ mostNumbers
+  listed-few = omega (arith, is .few, is .shown-few, listed-length)
+
+  pub listed-text : (letter : ℕ) → firstField (kindOf (line .line)) ≡ letter ∷ [] → textOf (letter ∷ []) (take (l .shown) (l .numbers)) ≡ bytesOf line
   unfolding bytesOf
-  listed-text letter e = rw (is .are, e)
+  listed-text letter e = rw (shown-are, e)
 
-  pub listed-size : (f n : ℕ) → f ≡ length (firstField (kindOf line)) → n ≡ length (textFrom (take (l .count) (l .numbers)) 0) → f + n + 1 ≡ length (bytesOf line)
+  pub listed-size : (f n : ℕ) → f ≡ length (firstField (kindOf (line .line))) → n ≡ length (textFrom (take (l .shown) (l .numbers)) 0) → f + n + 1 ≡ length (bytesOf line)
   unfolding bytesOf textOf
   listed-size f n e g =
-      let h : n ≡ length (afterCommas (map decimal (numbersOf line))) = g ∙ ap (λ (ns : List ℕ). length (afterCommas (map decimal ns))) (is .are) in
+      let h : n ≡ length (afterCommas (map decimal (numbersOf line))) = g ∙ ap (λ (ns : List ℕ). length (afterCommas (map decimal ns))) shown-are in
       simp length-append (omega (arith, e, h))

@@ -3,9 +3,9 @@
 use mathlib.Core.Path.{_≡_, refl, sym, ap, _∙_}
 use mathlib.Core.Bool.{true, false, not, _||_}
 use mathlib.Core.List.{List, [], _∷_, _++_, append-assoc, map}
-use Prim.Native.Nat.{ℕ, _+_, _^_, _<_}
+use Prim.Native.Nat.{ℕ, _+_, _^_}
 use native.Mathlib.Omega.{arith}
-use lib.Dec.{eqb}
+use lib.Dec.{leb, eqb}
 use lib.ListN.{length, drop, length-append, length-map}
 use borrow.Author.Tests.{eq-eqb, ne-eqb, eqb-true, leb-false, lt-leb, not-false}
 use Rattle.quantity.specs.Refusals.{firstOf}
@@ -13,10 +13,9 @@ use Rattle.quantity.specs.declared.refusal.Outcome.the-variants.{Accepted}
 use Rattle.quantity.proofs.Rows.{none-applies, no-refusal}
 use Rattle.quantity.proofs.Conditions.{neither, both}
 use Rattle.lines.specs.Bytes.{lineFeed, comma}
-use Rattle.lines.specs.Number.{decimal, isDigit, areDigits, isNumber, valueOf, isLong, mostDigits}
+use Rattle.lines.specs.Number.{decimal, isDigit, areDigits, isNumber, valueOf, mostDigits, someFrom, someLong}
 use Rattle.lines.specs.Line.{afterCommas, textOf}
 use Rattle.lines.specs.Reading.{isSame, untilEnd, isEnded, sizeOf, fieldsIn, firstIn, othersIn, areNumbers, numbersIn, isMisshapen, shapeRows}
-use Rattle.lines.specs.Writing.{someLong}
 use Rattle.lines.proofs.Decimals.{true-both, decimal-digits, decimal-is-number, value-decimal, number-decimal, number-small}
 use Rattle.lines.proofs.Same.{same-refl, same-true}
 use Rattle.lines.proofs.Splitting.{lacks, EachLacks, lacks-append, lacks-commas, split-joined, until-end, is-ended, ended-bytes, joined-split}
@@ -40,20 +39,12 @@ values-decimals : (ns : List ℕ) → map valueOf (map decimal ns) ≡ ns
 values-decimals [] = refl
 values-decimals (n ∷ ns) = rw (value-decimal n, values-decimals ns)
 
-pub short : (n : ℕ) → isLong n ≡ false → n < 10 ^ mostDigits
-unfolding isLong
-short n h = leb-false (10 ^ mostDigits) n h
-
-pub not-long : (n : ℕ) → n < 10 ^ mostDigits → isLong n ≡ false
-unfolding isLong
-not-long n h = lt-leb (10 ^ mostDigits) n h
-
 decimals-numbers : (ns : List ℕ) → someLong ns ≡ false → areNumbers (map decimal ns) ≡ true
-unfolding someLong areNumbers
+unfolding someFrom areNumbers
 decimals-numbers [] h = refl
 decimals-numbers (n ∷ ns) h =
-    let q = neither (isLong n) (someLong ns) h in
-    true-both (isNumber (decimal n)) _ (decimal-is-number n (short n (q .0))) (decimals-numbers ns (q .1))
+    let q = neither (leb (10 ^ mostDigits) n) (someLong ns) h in
+    true-both (isNumber (decimal n)) _ (decimal-is-number n (leb-false (10 ^ mostDigits) n (q .0))) (decimals-numbers ns (q .1))
 
 numbers-decimals : (fs : List (List ℕ)) → areNumbers fs ≡ true → map decimal (map valueOf fs) ≡ fs
 unfolding areNumbers
@@ -63,11 +54,11 @@ numbers-decimals (f ∷ fs) h =
     rw (number-decimal f (q .0), numbers-decimals fs (q .1))
 
 numbers-short : (fs : List (List ℕ)) → areNumbers fs ≡ true → someLong (map valueOf fs) ≡ false
-unfolding areNumbers someLong
+unfolding areNumbers someFrom
 numbers-short [] h = refl
 numbers-short (f ∷ fs) h =
     let q = both (isNumber f) (areNumbers fs) h in
-    simp (not-long (valueOf f) (number-small f (q .0)), numbers-short fs (q .1))
+    simp (lt-leb (10 ^ mostDigits) (valueOf f) (number-small f (q .0)), numbers-short fs (q .1))
 
 -- ---- joined, and read again
 

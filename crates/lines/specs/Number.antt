@@ -1,6 +1,6 @@
 -- A number's text, document 01, "Archive text": "A number has 1 to 18 digits and no leading zero except 0 itself."
 use Prim.Native.Nat.{ℕ, zero, suc, _+_, _-_, _*_, _/_, _%_, _^_}
-use mathlib.Core.Bool.{Bool, true, not, cond, _&&_, _||_}
+use mathlib.Core.Bool.{Bool, true, false, not, cond, _&&_, _||_}
 use mathlib.Core.List.{List, [], _∷_, _++_}
 use lib.Dec.{ltb, leb, eqb}
 use lib.ListN.{length, getD}
@@ -40,6 +40,15 @@ mostDigits = 18
 unfoldable pub isNumber : List ℕ → Bool
 isNumber bs = areDigits bs && (leb 1 (length bs) && (leb (length bs) mostDigits && (eqb (length bs) 1 || not (eqb (getD bs 0 0) digitZero))))
 
+-- one of the numbers is n or more
+unfoldable pub someFrom : ℕ → List ℕ → Bool
+someFrom n [] = false
+someFrom n (m ∷ ms) = leb n m || someFrom n ms
+
 -- "value of over 18 digits"
-unfoldable pub isLong : ℕ → Bool
-isLong n = leb (10 ^ mostDigits) n
+abbrev pub someLong : List ℕ → Bool
+someLong ns = someFrom (10 ^ mostDigits) ns
+
+-- "a number other than zero"
+abbrev pub someNonzero : List ℕ → Bool
+someNonzero ns = someFrom 1 ns

@@ -12,6 +12,7 @@ mod writing;
 
 pub use held::ReadLine;
 pub use held::read_line;
+pub use line::EditionLine;
 pub use line::Front;
 pub use line::Line;
 pub use line::MayCome;

@@ -1,31 +1,35 @@
 // A line's numbers as a list, and how many bytes they take.
+use crate::line::EditionLine;
 use crate::line::Line;
-use crate::number::LEAST_LONG;
 use crate::number::width;
 use meter::CARD_FIELDS;
+use meter::keeps_seconds;
 ghost use mathlib.Core.Path.{_≡_};
 ghost use mathlib.Core.List.{map};
 ghost use Prim.Native.Nat.{_≤_};
 ghost use lib.ListN.{length};
-ghost use Rattle.lines.specs.Number.{decimal};
-ghost use Rattle.lines.specs.Line.{kindOf, firstField, numbersOf, afterCommas, openingLength};
-ghost use Rattle.lines.specs.Writing.{someLong};
-ghost use Rattle.lines.specs.inside.Parts.{AreListed, mostBytes, mostNumbers};
+ghost use Rattle.lines.specs.Number.{decimal, someFrom};
+ghost use Rattle.lines.specs.Line.{totals, kindOf, firstField, countOf, afterCommas, openingLength};
+ghost use Rattle.lines.specs.inside.Parts.{AreListed, LineListed, mostBytes, mostNumbers, mostLater};
 
 // The card's line has the most numbers.
 pub(crate) const MOST_NUMBERS: usize = CARD_FIELDS;
 
-// A line's numbers: the first count of these.
+// The numbers that a line can have, the first count of these; and how many of them, from the first on, it has in its edition.
 pub(crate) struct Listed {
     pub count: usize,
+    pub shown: usize,
     pub numbers: [u64; MOST_NUMBERS],
 }
 
-pub(crate) fn numbers_of(line: Line) -> Listed
-    ensures { λ r. ⌜ AreListed (numbersOf line) r ⌝ }
+// The numbers of a line in its edition, in the papers' order.
+pub(crate) fn numbers_of(what: EditionLine) -> Listed
+    ensures { λ r. ⌜ LineListed what r ⌝ }
 {
+    let edition = what.edition;
+    let line = what.line;
     match line {
-        Line::Opening => list(&[1]),
+        Line::Opening => list(&[edition], 1),
         Line::Card(c) => list(
             &[
                 c.serial,
@@ -41,16 +45,30 @@ pub(crate) fn numbers_of(line: Line) -> Listed
                 c.qs,
                 c.ps,
             ],
+            CARD_FIELDS,
         ),
-        Line::Sample(s) => list(&[s.pulses, s.seconds, s.supply_reading, s.return_reading]),
-        Line::End(t) => list(&[t.accepted, t.refused, t.register, t.volume]),
+        Line::Sample(s) => list(
+            &[s.pulses, s.seconds, s.supply_reading, s.return_reading],
+            4,
+        ),
+        Line::End(t) => list(
+            &[t.accepted, t.refused, t.register, t.volume, t.kept_seconds],
+            totals_count(edition),
+        ),
     }
 }
 
+// How many numbers line E has in an edition.
+pub(crate) fn totals_count(edition: u64) -> usize
+    ensures { λ r. ⌜ (r ≡ countOf edition totals) × (r ≤ mostLater) ⌝ }
+{
+    if keeps_seconds(edition) { 5 } else { 4 }
+}
+
 // The numbers, with zeros after them.
-fn list(numbers: &[u64]) -> Listed
-    requires { ⌜ length (now numbers) ≤ mostNumbers ⌝ }
-    ensures { λ r. ⌜ AreListed (now (numbers .entry)) r ⌝ }
+fn list(numbers: &[u64], shown: usize) -> Listed
+    requires { ⌜ (length (now numbers) ≤ mostNumbers) × (shown ≤ length (now numbers)) ⌝ }
+    ensures { λ r. ⌜ AreListed (now (numbers .entry)) shown r ⌝ }
 {
     let mut all = [0u64; MOST_NUMBERS];
     let mut i: usize = 0;
@@ -60,17 +78,18 @@ fn list(numbers: &[u64]) -> Listed
     }
     Listed {
         count: numbers.len(),
+        shown: shown,
         numbers: all,
     }
 }
 
-// Whether one of the numbers has over 18 digits.
-pub(crate) fn has_long(numbers: &[u64]) -> bool
-    ensures { λ r. ⌜ r ≡ someLong (now (numbers .entry)) ⌝ }
+// Whether one of the numbers is least or more.
+pub(crate) fn has_from(numbers: &[u64], least: u64) -> bool
+    ensures { λ r. ⌜ r ≡ someFrom least (now (numbers .entry)) ⌝ }
 {
     let mut i: usize = 0;
     while i < numbers.len() {
-        if LEAST_LONG <= numbers[i] {
+        if least <= numbers[i] {
             return true;
         }
         i += 1;

@@ -1,12 +1,12 @@
 -- What is known where no row of card, state or sample refuses, as plain facts about numbers.
 -- Assumes nothing.
-use mathlib.Core.Path.{_≡_, refl}
-use mathlib.Core.Bool.{Bool, true, false, _&&_, _||_}
+use mathlib.Core.Path.{_≡_, refl, subst}
+use mathlib.Core.Bool.{Bool, true, false, not, cond, _&&_, _||_}
 use Prim.Native.Nat.{ℕ, _+_, _*_, _^_, _≤_, _<_}
 use native.Mathlib.Nat.{mul-le-mul}
 use native.Mathlib.Omega.{arith}
 use lib.Dec.{ltb, leb, eqb}
-use borrow.Author.Tests.{ltb-false, leb-true, leb-false, eqb-false, eqb-true, not-false}
+use borrow.Author.Tests.{le-ltb, ltb-false, leb-true, leb-false, eqb-false, eqb-true, not-false}
 use Rattle.quantity.specs.Refusals.{outside, NoneApplies}
 use Rattle.quantity.proofs.Conditions.{neither, both, inside}
 use Rattle.quantity.specs.Units.{lastHundredth, lastDegree, largestKelvins, distanceOf}
@@ -21,10 +21,11 @@ use Rattle.platinum.specs.declared.reading.Measured.{Measured}
 use Rattle.platinum.specs.declared.reading.Measured.the-variants.{At, Outside, NoSensor}
 use Rattle.platinum.specs.Temperature.{temperatureOf}
 use Rattle.platinum.proofs.Answer.{within-range}
+use Rattle.meter.specs.Edition.{isOtherEdition, keepsSeconds}
 use Rattle.meter.specs.Card.{cardRows}
-use Rattle.meter.specs.State.{stateRows, largestRegister, largestVolume, largestCount}
+use Rattle.meter.specs.State.{stateRows, largestRegister, largestVolume, largestCount, mostSeconds, passesLimit, misfitsEdition}
 use Rattle.meter.specs.Sample.{volumeOf, supplyOf, returnOf, temperatureOrMissing, ts, tr, sampleHeat}
-use Rattle.meter.specs.Step.{countRows, readingRows, rangeRows, limitRows}
+use Rattle.meter.specs.Step.{countRows, readingRows, isAboveQs, rangeRows, limitRows, keptOf}
 use Rattle.quantity.specs.Fractions.{floored}
 use Rattle.meter.specs.Theorems.{AcceptedHasTemperatures}
 use Rattle.meter.specs.declared.card.Card.{Card}
@@ -81,10 +82,21 @@ accepted-card c h =
       power = inside _ _ _ (h17 .1 .0);
     }
 
+-- a condition on editions that keep no seconds: what it says, where it is false, and when it is
+not-both : (keeps b : Bool) → (not keeps && b) ≡ false → keeps ≡ false → b ≡ false
+not-both keeps b h e = subst (λ (k : Bool). (not k && b) ≡ false) e h
+
+pub not-both-if : (keeps b : Bool) → (keeps ≡ false → b ≡ false) → (not keeps && b) ≡ false
+not-both-if true b h = refl
+not-both-if false b h = h refl
+
 pub record AcceptedState (m : Meter) : Type 0 where
   pub register : m .register ≤ largestRegister
   pub volume : m .volume ≤ largestVolume
   pub counts : m .accepted + m .refused < largestCount
+  pub edition : isOtherEdition (m .edition) ≡ false
+  pub kept : m .«kept_seconds» ≤ mostSeconds * m .accepted
+  pub lacks : keepsSeconds (m .edition) ≡ false → m .«kept_seconds» ≡ 0
 
 strictly : (a b : ℕ) → a ≤ b → (a ≡ b → ⊥) → a < b
 strictly a b h n = omega arith
@@ -92,16 +104,36 @@ strictly a b h n = omega arith
 pub accepted-state : (m : Meter) → NoneApplies (stateRows m) → AcceptedState m
 unfolding stateRows
 accepted-state m h =
-    let limits = neither (ltb largestRegister (m .register) || ltb largestVolume (m .volume)) (ltb largestCount (m .accepted + m .refused)) (h .0) in
+    let h20 = neither (passesLimit m) (misfitsEdition m) (h .0) in
+    let other = isOtherEdition (m .edition) in
+    let keeps = keepsSeconds (m .edition) in
+    let n = m .«kept_seconds» in
+    let fits = neither (other || ltb (mostSeconds * m .accepted) n) (not keeps && ltb 0 n) (h20 .1) in
+    let known = neither other (ltb (mostSeconds * m .accepted) n) (fits .0) in
+    let limits = neither (ltb largestRegister (m .register) || ltb largestVolume (m .volume)) (ltb largestCount (m .accepted + m .refused)) (h20 .0) in
     let two = neither (ltb largestRegister (m .register)) (ltb largestVolume (m .volume)) (limits .0) in
     record {
       register = ltb-false _ _ (two .0);
       volume = ltb-false _ _ (two .1);
       counts = strictly _ _ (ltb-false _ _ (limits .1)) (eqb-false _ _ (h .1 .0));
+      edition = known .0;
+      kept = ltb-false _ _ (known .1);
+      lacks = λ k. omega (arith, ltb-false 0 n (not-both keeps (ltb 0 n) (fits .1) k));
     }
 
+-- and edition and kept seconds like these are not refused
+pub fits-edition : (m : Meter) → isOtherEdition (m .edition) ≡ false → m .«kept_seconds» ≤ mostSeconds * m .accepted →
+    (keepsSeconds (m .edition) ≡ false → m .«kept_seconds» ≡ 0) → misfitsEdition m ≡ false
+fits-edition m known most lacks =
+    let n = m .«kept_seconds» in
+    simp (
+      known,
+      le-ltb (mostSeconds * m .accepted) n most,
+      not-both-if (keepsSeconds (m .edition)) (ltb 0 n) (λ k. le-ltb 0 n (omega (arith, lacks k))),
+    )
+
 pub record AcceptedCounts (c : Card) (s : Sample) : Type 0 where
-  pub seconds : (1 ≤ s .seconds) × (s .seconds ≤ 3600)
+  pub seconds : (1 ≤ s .seconds) × (s .seconds ≤ mostSeconds)
   pub pulses : s .pulses ≤ 1000000
   pub volume : volumeOf c s ≤ 1000000
 
@@ -120,12 +152,31 @@ above : (a b : Temperature) (n : ℕ) → b .0 ≤ a .0 → n ≤ distanceOf a b
 unfolding distanceOf
 above a b n h l = omega arith
 
-pub accepted-pair : (c : Card) (s : Sample) → NoneApplies (rangeRows c s) → AcceptedPair c s
+pub accepted-pair : (e : ℕ) (c : Card) (s : Sample) → NoneApplies (rangeRows e c s) → AcceptedPair c s
 unfolding rangeRows
-accepted-pair c s h =
+accepted-pair e c s h =
     let h36 = h .1 .1 in
     let warmer = ltb-false (ts c s .0) (tr c s .0) (h36 .0) in
     record { warmer = warmer; apart = above _ _ _ warmer (ltb-false _ _ (h36 .1 .0)) }
+
+-- an edition that keeps no seconds accepts no sample above q_s
+pub accepted-flow : (e : ℕ) (c : Card) (s : Sample) → NoneApplies (rangeRows e c s) → keepsSeconds e ≡ false → isAboveQs c s ≡ false
+unfolding rangeRows
+accepted-flow e c s h k = not-both (keepsSeconds e) (isAboveQs c s) (h .1 .1 .1 .1 .1 .0) k
+
+-- it keeps none of one that is not above q_s
+pub kept-none : (c : Card) (s : Sample) → isAboveQs c s ≡ false → keptOf c s ≡ 0
+unfolding keptOf
+kept-none c s e = rw e refl
+
+-- and at most a sample's most seconds of any
+pub kept-at-most : (c : Card) (s : Sample) → AcceptedCounts c s → keptOf c s ≤ mostSeconds
+unfolding keptOf
+kept-at-most c s h = by (isAboveQs c s)
+  where
+    by : (b : Bool) → cond b (s .seconds) 0 ≤ mostSeconds
+    by true = h .seconds .1
+    by false = omega arith
 
 pub record AcceptedLimits (m : Meter) (s : Sample) : Type 0 where
   pub register : m .register + floored (sampleHeat (m .card) s) ≤ largestRegister

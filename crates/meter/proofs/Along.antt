@@ -1,7 +1,7 @@
 -- What stays true along the calls from a fresh meter.
 -- Assumes nothing.
 use mathlib.Core.Path.{_≡_, refl, sym, _∙_, ap, subst}
-use mathlib.Core.List.{List, []}
+use mathlib.Core.List.{List}
 use mathlib.Core.Bool.{Bool, true, false, cond}
 use mathlib.Core.Logic.{_⊎_, inl, inr}
 use Prim.Native.Nat.{ℕ, _+_, _≤_, _<_}
@@ -14,14 +14,16 @@ use Rattle.quantity.specs.declared.refusal.Outcome.{Outcome}
 use Rattle.quantity.specs.declared.refusal.Outcome.the-variants.{Accepted, Refused}
 use Rattle.quantity.proofs.Rows.{none-applies, none-of-parts, orElse, parts, of-some-row}
 use Rattle.meter.specs.Card.{cardRows}
-use Rattle.meter.specs.State.{stateRows, largestRegister, largestVolume, largestCount}
+use Rattle.meter.specs.State.{freshOf, stateRows, largestRegister, largestVolume, largestCount}
 use Rattle.meter.specs.Step.{cardAndStateRows, countRows, readingRows, rangeRows, limitRows, sampleRows, stepOf}
 use Rattle.meter.specs.Sum.{Mark}
 use Rattle.meter.specs.Calls.{Calls, none, step}
+use Rattle.meter.specs.declared.card.Card.{Card}
 use Rattle.meter.specs.declared.state.Meter.{Meter}
+use Rattle.meter.specs.declared.state.FreshMeter.{FreshMeter}
 use Rattle.meter.specs.declared.sample.Sample.{Sample}
 use Rattle.meter.specs.declared.stepping.Stepped.{Stepped}
-use Rattle.meter.proofs.Accepted.{accepted-state, accepted-limits}
+use Rattle.meter.proofs.Accepted.{accepted-state, fits-edition, accepted-counts, accepted-flow, kept-none, kept-at-most, accepted-limits}
 use Rattle.meter.specs.Answers.{Answers, accepts, refuses-sample, refuses-before}
 use Rattle.meter.specs.Theorems.{WithinLimits, StaysWithinLimits, NoOtherRefusal, countsOf, countedOf, Counted}
 use Rattle.meter.proofs.Answers.{answered}
@@ -35,28 +37,56 @@ pub within-after : (m : Meter) (s : Sample) (a : Stepped) → Answers m s a → 
 within-after m s a (accepts h) g =
     let limits = accepted-limits m s (h .limit) in
     let counts = accepted-state m (h .state) .counts in
-    record { card = g .card; register = limits .register; volume = limits .volume; counts = omega arith }
+    let most = kept-at-most (m .card) s (accepted-counts (m .card) s (h .count)) in
+    record {
+      card = g .card;
+      register = limits .register;
+      volume = limits .volume;
+      counts = omega arith;
+      edition = g .edition;
+      kept = omega (arith, g .kept);
+      lacks = λ k.
+          let none-more = kept-none (m .card) s (accepted-flow (m .edition) (m .card) s (h .range) k) in
+          omega (arith, g .lacks k);
+    }
 within-after m s a (refuses-sample n e f) g =
     let counts = room m e in
-    record { card = g .card; register = g .register; volume = g .volume; counts = omega arith }
+    record { card = g .card; register = g .register; volume = g .volume; counts = omega arith; edition = g .edition; kept = g .kept; lacks = g .lacks }
 within-after m s a (refuses-before n e) g = g
 
 pub within-along : {m z : Meter} {ks : List Mark} → WithinLimits m → Calls m ks z → WithinLimits z
 within-along g none = g
 within-along g (step {m = m} s a p rest) = within-along (within-after m s a (answered m s a p) g) rest
 
--- register and volume never pass their limits from a fresh meter
+-- a fresh meter is within its limits
+pub fresh-within : (c : Card) (e : ℕ) (m : Meter) → freshOf c e ≡ FreshMeter.Made m → WithinLimits m
+fresh-within c e m h =
+    let f = fresh-zeros c e m h in
+    subst WithinLimits (f .meter)
+    (record {
+      card = f .card;
+      register = omega arith;
+      volume = omega arith;
+      counts = omega arith;
+      edition = f .edition;
+      kept = omega arith;
+      lacks = λ k. refl;
+    })
+
+-- register, volume and kept seconds never pass their limits from a fresh meter
 pub stays-within-limits : StaysWithinLimits
-stays-within-limits c m e ks z calls =
-    let f = fresh-zeros c m e in
-    within-along (subst WithinLimits (f .1) (record { card = f .0; register = omega arith; volume = omega arith; counts = omega arith })) calls
+stays-within-limits c e m h ks z calls = within-along (fresh-within c e m h) calls
 
 -- of the rows of card and state only 21 can refuse such a meter
 by-state : (m : Meter) → WithinLimits m → firstOf (stateRows m) ≡ cond (eqb (m .accepted + m .refused) largestCount) (Refused 21) Accepted
 unfolding stateRows firstOf
 by-state m g =
-    simp
-    (le-ltb largestRegister (m .register) (g .register), le-ltb largestVolume (m .volume) (g .volume), le-ltb largestCount (m .accepted + m .refused) (g .counts))
+    simp (
+      le-ltb largestRegister (m .register) (g .register),
+      le-ltb largestVolume (m .volume) (g .volume),
+      le-ltb largestCount (m .accepted + m .refused) (g .counts),
+      fits-edition m (g .edition) (g .kept) (g .lacks),
+    )
 
 is-21 : (b : Bool) (n : ℕ) → cond b (Refused 21) Accepted ≡ Refused n → (n ≡ 21) × (b ≡ true)
 is-21 true n e = (cc, refl)
@@ -93,7 +123,7 @@ by-answer m s a n (refuses-before k f) g e =
     inl (sym same ∙ only-21 m k g f)
 
 pub no-other-refusal : NoOtherRefusal
-no-other-refusal c m e ks z calls s n f = by-answer z s (stepOf z s) n (answered z s (stepOf z s) refl) (stays-within-limits c m e ks z calls) f
+no-other-refusal c e m h ks z calls s n f = by-answer z s (stepOf z s) n (answered z s (stepOf z s) refl) (stays-within-limits c e m h ks z calls) f
 
 pub one-more : (m : Meter) (s : Sample) (a : Stepped) → Answers m s a → WithinLimits m →
     a .meter .accepted + a .meter .refused ≡ m .accepted + m .refused + countsOf (a .outcome)
@@ -109,6 +139,6 @@ counted-along g (step {m = m} s a p rest) =
 
 -- accepted plus refused is the number of calls not refused by 21
 pub counted : Counted
-counted c m e ks z calls =
-    let f = fresh-zeros c m e in
-    omega (arith, counted-along (stays-within-limits c m e [] m none) calls, ap (λ (x : Meter). x .accepted + x .refused) (f .1))
+counted c e m h ks z calls =
+    let f = fresh-zeros c e m h in
+    omega (arith, counted-along (fresh-within c e m h) calls, ap (λ (x : Meter). x .accepted + x .refused) (f .meter))

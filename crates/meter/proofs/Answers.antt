@@ -23,7 +23,7 @@ no-row-refuses m s h g =
     let p = none-of-parts (cardRows (m .card)) (stateRows m) h in
     let q = none-of-parts (countRows (m .card) s) _ g in
     let r = none-of-parts (readingRows (m .card) s) _ (q .1) in
-    let t = none-of-parts (rangeRows (m .card) s) (limitRows m s) (r .1) in
+    let t = none-of-parts (rangeRows (m .edition) (m .card) s) (limitRows m s) (r .1) in
     record { card = p .0; state = p .1; count = q .0; reading = r .0; range = t .0; limit = t .1 }
 
 by-sample : (m : Meter) (s : Sample) (o : Outcome) → firstOf (cardAndStateRows m) ≡ Accepted → firstOf (sampleRows m s) ≡ o → Answers m s (bySample m s o)
@@ -54,7 +54,7 @@ not-refused m s h =
       no-refusal (cardAndStateRows m) (none-together (cardRows (m .card)) (stateRows m) (h .card) (h .state)),
       no-refusal (sampleRows m s)
           (none-together (countRows (m .card) s) _ (h .count)
-          (none-together (readingRows (m .card) s) _ (h .reading) (none-together (rangeRows (m .card) s) (limitRows m s) (h .range) (h .limit)))),
+          (none-together (readingRows (m .card) s) _ (h .reading) (none-together (rangeRows (m .edition) (m .card) s) (limitRows m s) (h .range) (h .limit)))),
     )
 
 pub accepted-exactly : AcceptedExactly

@@ -28,6 +28,7 @@ unfolding sampleHeat
 of-sample m s volume supply returned h =
     let c = m .card in
     let p = h .pair in
-    rw (p .volume-is, p .supply-is, p .returned-is)
-    (heat-accepted water (volumeOf c s) (ts c s) (tr c s) (c .place) (accepted-card c (p .card) .place) (temperature-at-most _ _)
-    (accepted-pair c s (h .range) .warmer) (accepted-counts c s (p .count) .volume))
+    let q = p .volumed in
+    rw (q .volume-is, p .supply-is, p .returned-is)
+    (heat-accepted water (volumeOf c s) (ts c s) (tr c s) (c .place) (accepted-card c (q .card) .place) (temperature-at-most _ _)
+    (accepted-pair (m .edition) c s (h .range) .warmer) (accepted-counts c s (q .count) .volume))

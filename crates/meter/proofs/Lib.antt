@@ -5,6 +5,7 @@ pub mod Accepted
 pub mod Along
 pub mod Answers
 pub mod Counts
+pub mod Editions
 pub mod Elements
 pub mod Existence
 pub mod Stages

@@ -1,25 +1,29 @@
 -- Demand 3, proved: `register` is the statement `RegisterBounds` of specs/Theorems.antt.
 -- Assumes nothing.
 use mathlib.Core.Path.{_≡_, refl, sym, _∙_, ap, subst}
-use mathlib.Core.List.{List}
+use mathlib.Core.List.{List, [], _∷_}
 use mathlib.Core.Bool.{cond, _&&_}
 use Prim.Native.Nat.{ℕ, _+_, _*_, _≤_, _<_}
 use native.Mathlib.Nat.{le-div-iff-mul-le}
 use native.Mathlib.Omega.{arith}
 use borrow.Author.Tests.{ltb-true, ltb-false}
+use Rattle.quantity.specs.Refusals.{row, firstOf}
 use Rattle.quantity.specs.declared.refusal.Outcome.{Outcome}
 use Rattle.quantity.specs.declared.refusal.Outcome.the-variants.{Accepted, Refused}
+use Rattle.quantity.proofs.Rows.{none-applies, no-refusal, none-of-parts, none-together}
 use Rattle.water.specs.Table.{water}
 use Rattle.quantity.specs.Fractions.{plus}
 use Rattle.quantity.specs.declared.fraction.Fraction.{Fraction}
 use Rattle.water.proofs.Bounds.{water-bounded}
 use Rattle.water.proofs.ExactHeats.{heat-is-fraction, no-volume-no-heat, at-least-2000}
-use Rattle.meter.specs.State.{freshOf, freshAnswer, zeros}
+use Rattle.meter.specs.Edition.{isOtherEdition}
+use Rattle.meter.specs.Card.{cardRows}
+use Rattle.meter.specs.State.{freshRows, freshOf, freshAnswer, zeros}
 use Rattle.meter.specs.Sample.{volumeOf, hasVolume, sampleHeat}
 use Rattle.meter.specs.Sum.{Mark, heatSamples, nothing, sumFrom, allowanceFrom, WithinBounds}
 use Rattle.meter.specs.Calls.{Calls, none, step, markOf}
 use Rattle.meter.specs.Answers.{NoRowRefuses, Answers, accepts, refuses-sample, refuses-before}
-use Rattle.meter.specs.Theorems.{RegisterBounds, FreshMade, FreshZeros, CardAlong, SampleHeatIsFraction, Raises}
+use Rattle.meter.specs.Theorems.{RegisterBounds, FreshMade, FreshZeros, CardAlong, EditionAlong, SampleHeatIsFraction, Raises}
 use Rattle.meter.specs.declared.card.Card.{Card}
 use Rattle.meter.specs.declared.state.Meter.{Meter}
 use Rattle.meter.specs.declared.state.FreshMeter.{FreshMeter}
@@ -40,7 +44,7 @@ unfolding sampleHeat
 heat-bounds m s h =
     let c = m .card in
     let card = accepted-card c (h .card) in
-    let pair = accepted-pair c s (h .range) in
+    let pair = accepted-pair (m .edition) c s (h .range) in
     record {
       is-fraction = sample-heat-is-fraction c s;
       none = λ e.
@@ -62,43 +66,61 @@ one m s a n sum (accepts h) b = keep _ _ _ _ _ (heat-bounds m s h) b
 one m s a n sum (refuses-sample x e f) b = b
 one m s a n sum (refuses-before x e) b = b
 
--- the card never changes
-pub same-card : (m : Meter) (s : Sample) (a : Stepped) → Answers m s a → a .meter .card ≡ m .card
-same-card m s a (accepts h) = refl
-same-card m s a (refuses-sample x e f) = refl
-same-card m s a (refuses-before x e) = refl
+-- card and edition stay the same
+pub record Stays (m z : Meter) : Type 0 where
+  pub card : z .card ≡ m .card
+  pub edition : z .edition ≡ m .edition
+
+-- by a call
+pub stays-after : (m : Meter) (s : Sample) (a : Stepped) → Answers m s a → Stays m (a .meter)
+stays-after m s a (accepts h) = record { card = refl; edition = refl }
+stays-after m s a (refuses-sample x e f) = record { card = refl; edition = refl }
+stays-after m s a (refuses-before x e) = record { card = refl; edition = refl }
 
 from : {m z : Meter} {ks : List Mark} (c : Card) (n : ℕ) (sum : Fraction) → m .card ≡ c → WithinBounds (m .register) n sum → Calls m ks z →
     WithinBounds (z .register) (allowanceFrom (heatSamples c) n ks) (sumFrom (heatSamples c) sum ks)
 from c n sum e b none = b
 from c n sum e b (step {m = m} s a p rest) =
     let h = answered m s a p in
-    from c _ _ (same-card m s a h ∙ e) (subst (λ (x : Card). After x s a n sum) e (one m s a n sum h b)) rest
+    from c _ _ (stays-after m s a h .card ∙ e) (subst (λ (x : Card). After x s a n sum) e (one m s a n sum h b)) rest
 
-card-of : {m z : Meter} {ks : List Mark} → Calls m ks z → z .card ≡ m .card
-card-of none = refl
-card-of (step {m = m} s a p rest) = card-of rest ∙ same-card m s a (answered m s a p)
+-- and so along the calls
+stays-along : {m z : Meter} {ks : List Mark} → Calls m ks z → Stays m z
+stays-along none = record { card = refl; edition = refl }
+stays-along (step {m = m} s a p rest) =
+    let one = stays-after m s a (answered m s a p) in
+    let others = stays-along rest in
+    record { card = others .card ∙ one .card; edition = others .edition ∙ one .edition }
 
 pub card-along : CardAlong
-card-along m ks z calls = card-of calls
+card-along m ks z calls = stays-along calls .card
 
--- a fresh meter is that of an accepted card, with zeros
-by-card : (c : Card) (m : Meter) (o : Outcome) → freshAnswer o (zeros c) ≡ FreshMeter.Made m → (o ≡ Accepted) × (zeros c ≡ m)
-by-card c m Accepted e = (refl, cc)
-by-card c m (Refused n) e = let z : _≡_ {A = ℕ} 0 1 = cc in absurd (omega arith)
+pub edition-along : EditionAlong
+edition-along m ks z calls = stays-along calls .edition
 
+-- only the outcome of no refusal makes a meter
+by-rows : (x m : Meter) (o : Outcome) → freshAnswer o x ≡ FreshMeter.Made m → (o ≡ Accepted) × (x ≡ m)
+by-rows x m Accepted e = (refl, cc)
+by-rows x m (Refused n) e = let z : _≡_ {A = ℕ} 0 1 = cc in absurd (omega arith)
+
+-- a fresh meter is that of an accepted card and an edition, with zeros
 pub fresh-zeros : FreshZeros
 unfolding freshOf
-fresh-zeros c m e = by-card c m _ e
+fresh-zeros c e m h =
+    let p = by-rows (zeros c e) m (firstOf (freshRows c e)) h in
+    let none-refuses = none-of-parts (cardRows c) _ (none-applies (freshRows c e) (p .0)) in
+    record { card = no-refusal (cardRows c) (none-refuses .0); edition = none-refuses .1 .0; meter = p .1 }
 
--- and every accepted card has one
+-- and every accepted card has one in each edition
 pub fresh-made : FreshMade
 unfolding freshOf
-fresh-made c e = ap (λ (o : Outcome). freshAnswer o (zeros c)) e
+fresh-made c e h known =
+    let none-refuses = none-together (cardRows c) (row 20 (isOtherEdition e) ∷ []) (none-applies (cardRows c) h) (known, tt) in
+    ap (λ (o : Outcome). freshAnswer o (zeros c e)) (no-refusal (freshRows c e) none-refuses)
 
 pub register : RegisterBounds
-register c m e ks z calls =
-    let m-is = fresh-zeros c m e .1 in
+register c e m h ks z calls =
+    let m-is = fresh-zeros c e m h .meter in
     from c 0 nothing (sym (ap (λ (x : Meter). x .card) m-is)) (subst (λ (x : Meter). WithinBounds (x .register) 0 nothing) m-is start) calls
 
 -- an accepted sample with a volume raises the register

@@ -17,7 +17,7 @@ pub record NoRowRefuses (m : Meter) (s : Sample) : Type 0 where
   pub state : NoneApplies (stateRows m)
   pub count : NoneApplies (countRows (m .card) s)
   pub reading : NoneApplies (readingRows (m .card) s)
-  pub range : NoneApplies (rangeRows (m .card) s)
+  pub range : NoneApplies (rangeRows (m .edition) (m .card) s)
   pub limit : NoneApplies (limitRows m s)
 
 -- What the step answers: it accepts exactly where no row refuses; a sample's row counts one more refused; a row of card or state leaves

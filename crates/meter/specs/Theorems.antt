@@ -1,10 +1,10 @@
 -- What is proved of the meter, statement by statement, demand 3 first. Each is proved in proofs/ under its name in small letters (`register` is
 -- `RegisterBounds`).
 use mathlib.Core.Path.{_≡_}
-use mathlib.Core.List.{List}
-use mathlib.Core.Bool.{true, cond}
+use mathlib.Core.List.{List, [], _∷_}
+use mathlib.Core.Bool.{true, false, cond}
 use mathlib.Core.Logic.{_↔_, _⊎_}
-use Prim.Native.Nat.{ℕ, _+_, _≤_, _<_}
+use Prim.Native.Nat.{ℕ, _+_, _*_, _≤_, _<_}
 use lib.Dec.{eqb}
 use Rattle.quantity.specs.Fractions.{IsFraction}
 use Rattle.quantity.specs.Refusals.{firstOf, NoneApplies}
@@ -12,10 +12,11 @@ use Rattle.quantity.specs.declared.units.Temperature.{Temperature}
 use Rattle.quantity.specs.declared.refusal.Outcome.{Outcome}
 use Rattle.quantity.specs.declared.refusal.Outcome.the-variants.{Accepted, Refused}
 use Rattle.platinum.specs.declared.reading.Measured.the-variants.{At}
+use Rattle.meter.specs.Edition.{isOtherEdition, keepsSeconds}
 use Rattle.meter.specs.Card.{cardRows}
-use Rattle.meter.specs.State.{freshOf, zeros, largestRegister, largestVolume, largestCount}
+use Rattle.meter.specs.State.{freshOf, zeros, largestRegister, largestVolume, largestCount, mostSeconds}
 use Rattle.meter.specs.Sample.{hasVolume, supplyOf, returnOf, sampleHeat}
-use Rattle.meter.specs.Step.{readingRows, stepOf}
+use Rattle.meter.specs.Step.{readingRows, isAboveQs, keptOf, stepOf}
 use Rattle.meter.specs.Sum.{Mark, heatSamples, sumOf, allowanceOf, WithinBounds}
 use Rattle.meter.specs.Calls.{Calls, none, step, isAccepted}
 use Rattle.meter.specs.Run.{samplesOf, marksOf, lastOf}
@@ -25,12 +26,13 @@ use Rattle.meter.specs.declared.state.Meter.{Meter}
 use Rattle.meter.specs.declared.state.FreshMeter.{FreshMeter}
 use Rattle.meter.specs.declared.sample.Sample.{Sample}
 
--- Demand 3, the register: for every accepted card and every list of step calls from its fresh meter, refused ones included: with the
--- sum of the accepted samples' heat in exact fractions, the register is not above the sum, not below it by more than 1 mJ for each
--- accepted sample with a volume, and not below it by more than a two-thousandth of the sum.
+-- Demand 3, the register: for every accepted card, every edition and every list of step calls from the fresh meter, refused ones included: with
+-- the sum of the accepted samples' heat in exact fractions, the register is not above the sum, not below it by more than 1 mJ for each
+-- accepted sample with a volume, and not below it by more than a two-thousandth of the sum. It "holds for fresh meters of either edition, with
+-- one argument for both" (document 02, request 2).
 abbrev pub RegisterBounds : Type 0
 RegisterBounds =
-    (c : Card) (m : Meter) → freshOf c ≡ FreshMeter.Made m → (ks : List Mark) (z : Meter) → Calls m ks z →
+    (c : Card) (e : ℕ) (m : Meter) → freshOf c e ≡ FreshMeter.Made m → (ks : List Mark) (z : Meter) → Calls m ks z →
     WithinBounds (z .register) (allowanceOf (heatSamples c) ks) (sumOf (heatSamples c) ks)
 
 -- It speaks of every list of samples: such calls exist, leave marks of these samples, and their marks and their last meter are the only ones.
@@ -46,16 +48,24 @@ OnlyMarks = (m : Meter) (ks : List Mark) (z : Meter) → Calls m ks z → ks ≡
 abbrev pub OnlyLast : Type 0
 OnlyLast = (m : Meter) (ks : List Mark) (z : Meter) → Calls m ks z → z ≡ lastOf m (samplesOf ks)
 
--- Every accepted card has a fresh meter, and a fresh meter is that of an accepted card, with zeros.
+-- Every accepted card has a fresh meter in each edition, and a fresh meter is that of an accepted card and an edition, with zeros.
 abbrev pub FreshMade : Type 0
-FreshMade = (c : Card) → firstOf (cardRows c) ≡ Accepted → freshOf c ≡ FreshMeter.Made (zeros c)
+FreshMade = (c : Card) (e : ℕ) → firstOf (cardRows c) ≡ Accepted → isOtherEdition e ≡ false → freshOf c e ≡ FreshMeter.Made (zeros c e)
+
+pub record IsFresh (c : Card) (e : ℕ) (m : Meter) : Type 0 where
+  pub card : firstOf (cardRows c) ≡ Accepted
+  pub edition : isOtherEdition e ≡ false
+  pub meter : zeros c e ≡ m
 
 abbrev pub FreshZeros : Type 0
-FreshZeros = (c : Card) (m : Meter) → freshOf c ≡ FreshMeter.Made m → (firstOf (cardRows c) ≡ Accepted) × (zeros c ≡ m)
+FreshZeros = (c : Card) (e : ℕ) (m : Meter) → freshOf c e ≡ FreshMeter.Made m → IsFresh c e m
 
--- the card never changes along the calls
+-- card and edition never change along the calls
 abbrev pub CardAlong : Type 0
 CardAlong = (m : Meter) (ks : List Mark) (z : Meter) → Calls m ks z → z .card ≡ m .card
+
+abbrev pub EditionAlong : Type 0
+EditionAlong = (m : Meter) (ks : List Mark) (z : Meter) → Calls m ks z → z .edition ≡ m .edition
 
 -- the exact heat is a fraction for any sample, also for one without a temperature
 abbrev pub SampleHeatIsFraction : Type 0
@@ -88,15 +98,20 @@ pub record WithinLimits (m : Meter) : Type 0 where
   pub register : m .register ≤ largestRegister
   pub volume : m .volume ≤ largestVolume
   pub counts : m .accepted + m .refused ≤ largestCount
+  pub edition : isOtherEdition (m .edition) ≡ false
+  pub kept : m .«kept_seconds» ≤ mostSeconds * m .accepted
+  pub lacks : keepsSeconds (m .edition) ≡ false → m .«kept_seconds» ≡ 0
 
--- register and volume never pass their limits along the calls from a fresh meter
+-- register and volume never pass their limits along the calls from a fresh meter, and the kept seconds never exceed 3600 times the accepted
+-- count, nor zero in edition 1
 abbrev pub StaysWithinLimits : Type 0
-StaysWithinLimits = (c : Card) (m : Meter) → freshOf c ≡ FreshMeter.Made m → (ks : List Mark) (z : Meter) → Calls m ks z → WithinLimits z
+StaysWithinLimits =
+    (c : Card) (e : ℕ) (m : Meter) → freshOf c e ≡ FreshMeter.Made m → (ks : List Mark) (z : Meter) → Calls m ks z → WithinLimits z
 
 -- so after any calls from a fresh meter the step refuses with 21 or with a number from 30 on, which only the sample's rows have
 abbrev pub NoOtherRefusal : Type 0
 NoOtherRefusal =
-    (c : Card) (m : Meter) → freshOf c ≡ FreshMeter.Made m → (ks : List Mark) (z : Meter) → Calls m ks z →
+    (c : Card) (e : ℕ) (m : Meter) → freshOf c e ≡ FreshMeter.Made m → (ks : List Mark) (z : Meter) → Calls m ks z →
     (s : Sample) (n : ℕ) → stepOf z s .outcome ≡ Refused n → (n ≡ 21) ⊎ (30 ≤ n)
 
 -- how many of the calls were not refused by 21
@@ -111,5 +126,46 @@ countedOf (step s a p rest) = countsOf (a .outcome) + countedOf rest
 -- accepted plus refused is that number
 abbrev pub Counted : Type 0
 Counted =
-    (c : Card) (m : Meter) → freshOf c ≡ FreshMeter.Made m → (ks : List Mark) (z : Meter) (calls : Calls m ks z) →
+    (c : Card) (e : ℕ) (m : Meter) → freshOf c e ≡ FreshMeter.Made m → (ks : List Mark) (z : Meter) (calls : Calls m ks z) →
     z .accepted + z .refused ≡ countedOf calls
+
+-- an edition that keeps no seconds accepts no sample above q_s, whatever the meter
+abbrev pub AcceptedWithinQs : Type 0
+AcceptedWithinQs =
+    (m : Meter) (s : Sample) → isAccepted (stepOf m s .outcome) ≡ true → keepsSeconds (m .edition) ≡ false → isAboveQs (m .card) s ≡ false
+
+-- the seconds of the accepted samples above q_s
+abbrev pub keptIn : Card → List Mark → ℕ
+keptIn c [] = 0
+keptIn c (k ∷ ks) = cond (k .accepted) (keptOf c (k .sample)) 0 + keptIn c ks
+
+-- those are the kept seconds
+abbrev pub KeptSeconds : Type 0
+KeptSeconds =
+    (c : Card) (e : ℕ) (m : Meter) → freshOf c e ≡ FreshMeter.Made m → (ks : List Mark) (z : Meter) → Calls m ks z → z .«kept_seconds» ≡ keptIn c ks
+
+-- no sample flows above q_s
+abbrev pub AllWithinQs : Card → List Sample → Type 0
+AllWithinQs c [] = Unit {0}
+AllWithinQs c (s ∷ ss) = (isAboveQs c s ≡ false) × AllWithinQs c ss
+
+-- a meter's state under another edition's number
+abbrev pub withEdition : ℕ → Meter → Meter
+withEdition e m = record {
+  card = m .card;
+  edition = e;
+  register = m .register;
+  volume = m .volume;
+  accepted = m .accepted;
+  refused = m .refused;
+  «kept_seconds» = m .«kept_seconds»;
+}
+
+-- where no sample flows above q_s, a run in one edition answers each sample and ends as in another, but for its edition
+pub record SameRun (c : Card) (e f : ℕ) (ss : List Sample) : Type 0 where
+  pub marks : marksOf (zeros c e) ss ≡ marksOf (zeros c f) ss
+  pub last : withEdition f (lastOf (zeros c e) ss) ≡ lastOf (zeros c f) ss
+
+abbrev pub EditionsAgree : Type 0
+EditionsAgree =
+    (c : Card) (e f : ℕ) (ss : List Sample) → isOtherEdition e ≡ false → isOtherEdition f ≡ false → AllWithinQs c ss → SameRun c e f ss

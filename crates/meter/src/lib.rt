@@ -1,4 +1,5 @@
-// The meter: its card, its state, and the step that takes one sample (document 01, "Card" and "Meter's step").
+// The meter: its card, its state, and the step that takes one sample (document 01, "Card" and "Meter's step"), by edition (document 02,
+// request 2).
 mod card;
 mod edition;
 mod sample;

@@ -1,5 +1,8 @@
-// A sample and the rows that refuse it by itself, whatever the meter's state (document 01, "Meter's step" and the row "Sample").
+// A sample and the rows that refuse it by itself, by the meter's card and edition, whatever its totals (document 01, "Meter's step" and the
+// row "Sample"; document 02, request 2).
 use crate::card::Card;
+use crate::edition::keeps_seconds;
+use crate::state::MOST_SECONDS;
 use platinum::Measured;
 use quantity::Difference;
 use quantity::Outcome;
@@ -7,17 +10,18 @@ use quantity::Position;
 use quantity::Temperature;
 use quantity::is_outside;
 ghost use mathlib.Core.Path.{_≡_};
-ghost use mathlib.Core.Bool.{_||_};
+ghost use mathlib.Core.Bool.{not, _&&_, _||_};
 ghost use mathlib.Core.List.{_++_};
 ghost use Prim.Native.Nat.{_*_, _≤_};
 ghost use lib.Dec.{ltb};
 ghost use Rattle.quantity.specs.Refusals.{firstOf, NoneApplies};
 ghost use Rattle.quantity.specs.declared.range.Position.the-variants.{Supply, Return};
 ghost use Rattle.platinum.specs.Refusal.{endRows};
+ghost use Rattle.meter.specs.Edition.{keepsSeconds};
 ghost use Rattle.meter.specs.Card.{cardRows};
 ghost use Rattle.meter.specs.Sample.{temperatureOrMissing};
-ghost use Rattle.meter.specs.Step.{outsideTheta, countRows, rangeRows};
-ghost use Rattle.meter.specs.inside.Stages.{Paired};
+ghost use Rattle.meter.specs.Step.{outsideTheta, countRows, isAboveQs, rangeRows, keptOf};
+ghost use Rattle.meter.specs.inside.Stages.{WithVolume, Paired};
 
 // What the flow sensor and the temperature sensor pair gave in some seconds. Any content can stand here.
 pub struct Sample {
@@ -32,7 +36,7 @@ pub(crate) fn count_refusal(card: Card, s: Sample) -> Outcome
     requires { ⌜ NoneApplies (cardRows card) ⌝ }
     ensures { λ r. ⌜ r ≡ firstOf (countRows card s) ⌝ }
 {
-    let r = Outcome::Accepted.or_row(is_outside(s.seconds, 1, 3600), 30);
+    let r = Outcome::Accepted.or_row(is_outside(s.seconds, 1, MOST_SECONDS), 30);
     r.or_row(is_too_much(s.pulses, card.ml_per_pulse), 31)
 }
 
@@ -69,8 +73,9 @@ pub(crate) fn temperature_or_missing(measured: Measured) -> Temperature
     }
 }
 
-// Rows 34 to 39, of the volume and of the supply and the return temperature.
+// Rows 34 to 39 in an edition, of the volume and of the supply and the return temperature.
 pub(crate) fn range_refusal(
+    edition: u64,
     card: Card,
     s: Sample,
     volume: u64,
@@ -78,7 +83,7 @@ pub(crate) fn range_refusal(
     returned: Temperature,
 ) -> Outcome
     requires { ⌜ Paired card s volume supply returned ⌝ }
-    ensures { λ r. ⌜ r ≡ firstOf (rangeRows card s) ⌝ }
+    ensures { λ r. ⌜ r ≡ firstOf (rangeRows edition card s) ⌝ }
 {
     let difference = supply.distance(returned);
     let least = Difference::of_kelvins(card.delta_min as u32);
@@ -88,7 +93,38 @@ pub(crate) fn range_refusal(
     let r = r.or_row(supply.is_below(returned), 36);
     let r = r.or_row(difference.is_below(least), 37);
     let r = r.or_row(largest.is_below(difference), 38);
-    r.or_row(card.qs * s.seconds < volume * 3600, 39)
+    r.or_row(is_flow_refused(edition, card, s, volume), 39)
+}
+
+// Flow above q_s is refused in an edition that does not keep the seconds of such a sample.
+fn is_flow_refused(edition: u64, card: Card, s: Sample, volume: u64) -> bool
+    requires { ⌜ WithVolume card s volume ⌝ }
+    ensures { λ r. ⌜ r ≡ (not (keepsSeconds edition) && isAboveQs card s) ⌝ }
+{
+    if keeps_seconds(edition) {
+        return false;
+    }
+    is_above_qs(card, s, volume)
+}
+
+// Whether the volume flowed above q_s: exactly at q_s it did not.
+fn is_above_qs(card: Card, s: Sample, volume: u64) -> bool
+    requires { ⌜ WithVolume card s volume ⌝ }
+    ensures { λ r. ⌜ r ≡ isAboveQs card s ⌝ }
+{
+    card.qs * s.seconds < volume * 3600
+}
+
+// The seconds that a meter keeps of an accepted sample.
+pub(crate) fn kept_of(card: Card, s: Sample, volume: u64) -> u64
+    requires { ⌜ WithVolume card s volume ⌝ }
+    ensures { λ r. ⌜ r ≡ keptOf card s ⌝ }
+{
+    if is_above_qs(card, s, volume) {
+        s.seconds
+    } else {
+        0
+    }
 }
 
 fn is_outside_theta(card: Card, t: Temperature) -> bool

@@ -1,13 +1,16 @@
-// The state of a meter (document 01, "Card"), its fresh start and its refusals.
+// The state of a meter (document 01, "Card"; document 02, request 2), its fresh start and its refusals.
 use crate::card::Card;
+use crate::edition::is_other_edition;
+use crate::edition::keeps_seconds;
 use quantity::Outcome;
+use quantity::product_less;
 ghost use mathlib.Core.Path.{_≡_};
 ghost use Prim.Native.Nat.{_+_, min};
 ghost use Rattle.quantity.specs.Refusals.{firstOf};
 ghost use Rattle.meter.specs.Step.{cardAndStateRows};
 ghost use mathlib.Core.Bool.{_||_};
 ghost use lib.Dec.{ltb};
-ghost use Rattle.meter.specs.State.{freshOf, stateRows, largestRegister, largestVolume, largestCount};
+ghost use Rattle.meter.specs.State.{freshRows, freshOf, stateRows, largestRegister, largestVolume, largestCount, misfitsEdition};
 
 // The limits of rows 20 and 21.
 pub(crate) const LARGEST_REGISTER: u64 = 999999999999999999;
@@ -16,43 +19,54 @@ pub(crate) const LARGEST_VOLUME: u64 = 999999999999999;
 
 pub(crate) const LARGEST_COUNT: u64 = 1000000000000;
 
-// A meter: its card, the heat register in mJ, the volume in mL, and how many samples were accepted and refused. Any content can stand
-// here; the step refuses a card or a state that a row from 10 to 21 meets.
+// The most seconds of a sample (row 30), and so the most that are kept for each accepted one (row 20).
+pub(crate) const MOST_SECONDS: u64 = 3600;
+
+// A meter: its card, its edition, the heat register in mJ, the volume in mL, how many samples were accepted and refused, and the seconds
+// of the accepted ones that flowed above q_s. Any content can stand here; the step refuses a card or a state that a row from 10 to 21 meets.
 pub struct Meter {
     pub card: Card,
+    pub edition: u64,
     pub register: u64,
     pub volume: u64,
     pub accepted: u64,
     pub refused: u64,
+    pub kept_seconds: u64,
 }
 
-// A fresh meter, or the refusal of its card.
+// A fresh meter, or the refusal of its card or its edition.
 pub enum FreshMeter {
     Made(Meter),
     Refused(u64),
 }
 
-// The fresh meter of an accepted card: zeros.
-pub fn fresh(card: Card) -> FreshMeter
-    ensures { λ r. ⌜ r ≡ freshOf card ⌝ }
+// The fresh meter of an accepted card in an edition: zeros.
+pub fn fresh(card: Card, edition: u64) -> FreshMeter
+    ensures { λ r. ⌜ r ≡ freshOf card edition ⌝ }
 {
-    let refusal = card.refusal();
+    let refusal = fresh_refusal(card, edition);
     match refusal {
-        Outcome::Accepted => FreshMeter::Made(meter_of(card, 0, 0, 0, 0)),
+        Outcome::Accepted => FreshMeter::Made(Meter {
+            card: card,
+            edition: edition,
+            register: 0,
+            volume: 0,
+            accepted: 0,
+            refused: 0,
+            kept_seconds: 0,
+        }),
         Outcome::Refused(number) => FreshMeter::Refused(number),
     }
 }
 
-// The one place of this crate that builds a meter.
-pub(crate) fn meter_of(card: Card, register: u64, volume: u64, accepted: u64, refused: u64) -> Meter
-    ensures { λ r. ⌜ r ≡ record { card = card; register = register; volume = volume; accepted = accepted; refused = refused } ⌝ }
+// The card's rows, then 20 for another edition.
+fn fresh_refusal(card: Card, edition: u64) -> Outcome
+    ensures { λ r. ⌜ r ≡ firstOf (freshRows card edition) ⌝ }
 {
-    Meter {
-        card: card,
-        register: register,
-        volume: volume,
-        accepted: accepted,
-        refused: refused,
+    let refusal = card.refusal();
+    match refusal {
+        Outcome::Accepted => Outcome::Accepted.or_row(is_other_edition(edition), 20),
+        Outcome::Refused(number) => Outcome::Refused(number),
     }
 }
 
@@ -68,12 +82,41 @@ pub(crate) fn card_and_state_refusal(m: Meter) -> Outcome
     }
 }
 
+// Rows 20 and 21.
 fn state_refusal(m: Meter) -> Outcome
     ensures { λ r. ⌜ r ≡ firstOf (stateRows m) ⌝ }
 {
     let count = capped_count(m.accepted, m.refused);
-    let r = Outcome::Accepted.or_row(passes_a_limit(m.register, m.volume, count), 20);
+    let r = Outcome::Accepted.or_row(is_state_refused(m, count), 20);
     r.or_row(count == LARGEST_COUNT, 21)
+}
+
+// Whether row 20 meets the meter, its two counts being count together.
+fn is_state_refused(m: Meter, count: u64) -> bool
+    ensures { λ r. ⌜ r ≡ ((ltb largestRegister (m .register) || ltb largestVolume (m .volume) || ltb largestCount count) || misfitsEdition m) ⌝ }
+{
+    if passes_a_limit(m.register, m.volume, count) {
+        return true;
+    }
+    misfits_edition(m)
+}
+
+// Another edition, or kept seconds that cannot be. Their limit is compared in full: the product can pass 64 bits.
+fn misfits_edition(m: Meter) -> bool
+    ensures { λ r. ⌜ r ≡ misfitsEdition m ⌝ }
+{
+    let edition = m.edition;
+    let kept = m.kept_seconds;
+    if is_other_edition(edition) {
+        return true;
+    }
+    if product_less(MOST_SECONDS, m.accepted, kept, 1) {
+        return true;
+    }
+    if keeps_seconds(edition) {
+        return false;
+    }
+    0 < kept
 }
 
 fn passes_a_limit(register: u64, volume: u64, count: u64) -> bool

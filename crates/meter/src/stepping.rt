@@ -2,6 +2,7 @@
 // readings, its ranges, and what it would add.
 use crate::sample::Sample;
 use crate::sample::count_refusal;
+use crate::sample::kept_of;
 use crate::sample::range_refusal;
 use crate::sample::reading_refusal;
 use crate::sample::temperature_or_missing;
@@ -9,7 +10,6 @@ use crate::state::LARGEST_REGISTER;
 use crate::state::LARGEST_VOLUME;
 use crate::state::Meter;
 use crate::state::card_and_state_refusal;
-use crate::state::meter_of;
 use quantity::Outcome;
 use quantity::Temperature;
 ghost use mathlib.Core.Path.{_≡_};
@@ -29,7 +29,8 @@ pub struct Stepped {
 }
 
 // Takes one sample. Refused by a row of card or state, the meter is unchanged; refused by a row of the sample, its refused count is one
-// more; accepted, the floored heat goes to the register, the volume to the volume, and the accepted count is one more.
+// more; accepted, the floored heat goes to the register, the volume to the volume, the seconds of one above q_s to the kept ones, and the
+// accepted count is one more.
 pub fn step(m: Meter, s: Sample) -> Stepped
     ensures { λ r. ⌜ r ≡ stepOf m s ⌝ }
 {
@@ -57,7 +58,7 @@ fn take_sample(m: Meter, s: Sample) -> Stepped
 
 fn take_readings(m: Meter, s: Sample) -> Stepped
     requires { ⌜ CountsPass m s ⌝ }
-    ensures { λ r. ⌜ r ≡ bySample m s (firstOf (readingRows (m .card) s ++ (rangeRows (m .card) s ++ limitRows m s))) ⌝ }
+    ensures { λ r. ⌜ r ≡ bySample m s (firstOf (readingRows (m .card) s ++ (rangeRows (m .edition) (m .card) s ++ limitRows m s))) ⌝ }
 {
     let sensor = m.card.sensor;
     let supply = platinum::temperature(sensor, s.supply_reading);
@@ -76,11 +77,11 @@ fn take_readings(m: Meter, s: Sample) -> Stepped
 
 fn take_pair(m: Meter, s: Sample, supply: Temperature, returned: Temperature) -> Stepped
     requires { ⌜ Compared m s supply returned ⌝ }
-    ensures { λ r. ⌜ r ≡ bySample m s (firstOf (rangeRows (m .card) s ++ limitRows m s)) ⌝ }
+    ensures { λ r. ⌜ r ≡ bySample m s (firstOf (rangeRows (m .edition) (m .card) s ++ limitRows m s)) ⌝ }
 {
     let card = m.card;
     let volume = s.pulses * card.ml_per_pulse;
-    let refusal = range_refusal(card, s, volume, supply, returned);
+    let refusal = range_refusal(m.edition, card, s, volume, supply, returned);
     match refusal {
         Outcome::Accepted => take_heat(m, s, volume, supply, returned),
         Outcome::Refused(number) => refuse(m, number),
@@ -108,9 +109,10 @@ fn take_amounts(m: Meter, s: Sample, heat: u64, volume: u64) -> Stepped
     requires { ⌜ Heated m s heat volume ⌝ }
     ensures { λ r. ⌜ r ≡ bySample m s (firstOf (limitRows m s)) ⌝ }
 {
+    let card = m.card;
     let refusal = limit_refusal(m, s, heat, volume);
     match refusal {
-        Outcome::Accepted => accept(m, heat, volume),
+        Outcome::Accepted => accept(m, heat, volume, kept_of(card, s, volume)),
         Outcome::Refused(number) => refuse(m, number),
     }
 }
@@ -135,30 +137,42 @@ fn passes_limits(register: u64, heat: u64, volume: u64, added: u64) -> bool
     LARGEST_VOLUME - volume < added
 }
 
-fn accept(m: Meter, heat: u64, volume: u64) -> Stepped
-    requires { ⌜ Fits m heat volume ⌝ }
-    ensures { λ r. ⌜ r ≡ record { meter = adding m heat volume; outcome = Outcome.Accepted } ⌝ }
+// The meter with an accepted sample's heat, volume and kept seconds.
+fn accept(m: Meter, heat: u64, volume: u64, kept: u64) -> Stepped
+    requires { ⌜ Fits m heat volume kept ⌝ }
+    ensures { λ r. ⌜ r ≡ record { meter = adding m heat volume kept; outcome = Outcome.Accepted } ⌝ }
 {
     let card = m.card;
     Stepped {
-        meter: meter_of(
-            card,
-            m.register + heat,
-            m.volume + volume,
-            m.accepted + 1,
-            m.refused,
-        ),
+        meter: Meter {
+            card: card,
+            edition: m.edition,
+            register: m.register + heat,
+            volume: m.volume + volume,
+            accepted: m.accepted + 1,
+            refused: m.refused,
+            kept_seconds: m.kept_seconds + kept,
+        },
         outcome: Outcome::Accepted,
     }
 }
 
+// The meter with one refused sample more.
 fn refuse(m: Meter, number: u64) -> Stepped
     requires { ⌜ m .accepted + m .refused < largestCount ⌝ }
     ensures { λ r. ⌜ r ≡ record { meter = refusing m; outcome = Outcome.Refused number } ⌝ }
 {
     let card = m.card;
     Stepped {
-        meter: meter_of(card, m.register, m.volume, m.accepted, m.refused + 1),
+        meter: Meter {
+            card: card,
+            edition: m.edition,
+            register: m.register,
+            volume: m.volume,
+            accepted: m.accepted,
+            refused: m.refused + 1,
+            kept_seconds: m.kept_seconds,
+        },
         outcome: Outcome::Refused(number),
     }
 }

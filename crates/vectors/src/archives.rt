@@ -10,7 +10,7 @@ use lines::Written;
 // `A,` the bytes, at most 4096: the audit's whole output line, with the program's limit. A full space would be 68.
 pub(crate) fn of_file(line: &[u8]) {
     let mut space = [0u8; 4097];
-    let n = bytes_of(line, &mut space);
+    let n = bytes_of(line, 1, &mut space);
     put_output(archive::report(&space, n, AUDIT_LIMIT));
 }
 

@@ -1,13 +1,14 @@
 // Bytes given in hexadecimal.
+use crate::text::field_start;
 ghost use Prim.Native.Nat.{_≤_};
 ghost use lib.ListN.{length};
 
-// Puts the bytes behind a line's letter and comma at the front of buf, and answers how many they are.
-pub(crate) fn bytes_of(line: &[u8], buf: &mut [u8]) -> usize
+// Puts the bytes behind the k-th comma of a line, its last field, at the front of buf, and answers how many they are.
+pub(crate) fn bytes_of(line: &[u8], k: usize, buf: &mut [u8]) -> usize
     ensures { λ r. ⌜ r ≤ length (now (buf .exit)) ⌝ }
 {
     let mut n: usize = 0;
-    let mut i: usize = 2;
+    let mut i = field_start(line, k);
     while i < line.len() {
         if n == buf.len() {
             return n;

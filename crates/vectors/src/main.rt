@@ -13,10 +13,9 @@ mod writers;
 
 use libc::STDIN_FILENO;
 use libc::STDOUT_FILENO;
-use lines::MayCome;
 
 fn main() {
-    let mut space = [0u8; 262144];
+    let mut space = [0u8; 524288];
     let n = io::read_full(STDIN_FILENO, &mut space);
     run(&space[..n]);
 }
@@ -44,9 +43,9 @@ fn answer(line: &[u8]) {
             b'F' => meters::of_card(line),
             b'M' => meters::of_state(line),
             b'V' => verdicts::of_point(line),
-            b'O' => readers::of_line(line, MayCome::Opening),
-            b'C' => readers::of_line(line, MayCome::Card),
-            b'S' => readers::of_line(line, MayCome::SampleOrEnd),
+            b'O' => readers::of_opening(line),
+            b'C' => readers::of_card(line),
+            b'S' => readers::of_sample_or_end(line),
             b'A' => archives::of_file(line),
             b'N' => archives::of_zeros(line),
             b'L' => writers::of_values(line),

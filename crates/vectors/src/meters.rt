@@ -1,4 +1,4 @@
-// The meter's step from outside states.
+// Fresh meters of outside cards, and the meter's step from outside states.
 use crate::answers::put;
 use crate::text::number;
 use meter::Card;
@@ -7,8 +7,8 @@ use meter::Sample;
 use quantity::Outcome;
 ghost use Prim.Native.Nat.{_≤_};
 
-// `M,` the card's twelve fields, register, volume, accepted and refused, then pulses, seconds, supply and return reading: the refusal or
-// 0, then the four fields of the meter afterwards.
+// `M,` the card's twelve fields, the meter's state, then pulses, seconds, supply and return reading: the refusal or 0, then the state
+// afterwards. A state is register, volume, accepted, refused, edition and kept seconds.
 pub(crate) fn of_state(line: &[u8]) {
     let before = Meter {
         card: card_of(line, 0),
@@ -16,14 +16,10 @@ pub(crate) fn of_state(line: &[u8]) {
         volume: number(line, 14),
         accepted: number(line, 15),
         refused: number(line, 16),
+        edition: number(line, 17),
+        kept_seconds: number(line, 18),
     };
-    let sample = Sample {
-        pulses: number(line, 17),
-        seconds: number(line, 18),
-        supply_reading: number(line, 19),
-        return_reading: number(line, 20),
-    };
-    let stepped = meter::step(before, sample);
+    let stepped = meter::step(before, sample_of(line, 18));
     let outcome = stepped.outcome;
     let after = stepped.meter;
     match outcome {
@@ -38,11 +34,13 @@ fn put_state(m: Meter) {
     put(b",", m.volume);
     put(b",", m.accepted);
     put(b",", m.refused);
+    put(b",", m.edition);
+    put(b",", m.kept_seconds);
 }
 
 // The card whose fields stand behind so many other numbers of the line.
 pub(crate) fn card_of(line: &[u8], before: usize) -> Card
-    requires { ⌜ before ≤ 3 ⌝ }
+    requires { ⌜ before ≤ 4 ⌝ }
 {
     Card::from_fields([
         number(line, before + 1),
@@ -60,9 +58,21 @@ pub(crate) fn card_of(line: &[u8], before: usize) -> Card
     ])
 }
 
-// `F,` the card's twelve fields: the fresh meter's four fields, or X and the refusal.
+// The sample whose four numbers stand behind so many others of the line.
+pub(crate) fn sample_of(line: &[u8], before: usize) -> Sample
+    requires { ⌜ before ≤ 18 ⌝ }
+{
+    Sample {
+        pulses: number(line, before + 1),
+        seconds: number(line, before + 2),
+        supply_reading: number(line, before + 3),
+        return_reading: number(line, before + 4),
+    }
+}
+
+// `F,` the card's twelve fields and the edition: the fresh meter's state, or X and the refusal.
 pub(crate) fn of_card(line: &[u8]) {
-    let start = meter::fresh(card_of(line, 0));
+    let start = meter::fresh(card_of(line, 0), number(line, 13));
     match start {
         meter::FreshMeter::Made(m) => put_state(m),
         meter::FreshMeter::Refused(refusal) => put(b",X,", refusal),

@@ -2,15 +2,30 @@
 use crate::answers::put;
 use crate::archives::put_front;
 use crate::hexadecimal::bytes_of;
+use crate::text::number;
+use lines::EditionLine;
 use lines::Front;
-use lines::Line;
 use lines::MayCome;
 
-// `O,`, `C,` or `S,` the bytes, where the opening, the card's line, or a sample's line or the last may come: the line as the writer puts it
-// again and how many bytes follow it, or X and the refusal.
-pub(crate) fn of_line(line: &[u8], may_come: MayCome) {
+// `O,` the bytes, where the opening may come.
+pub(crate) fn of_opening(line: &[u8]) {
+    of_line(line, 1, MayCome::Opening);
+}
+
+// `C,` the edition and the bytes, where the card's line may come.
+pub(crate) fn of_card(line: &[u8]) {
+    of_line(line, 2, MayCome::Card(number(line, 1)));
+}
+
+// `S,` the edition and the bytes, where a sample's line or the last may come.
+pub(crate) fn of_sample_or_end(line: &[u8]) {
+    of_line(line, 2, MayCome::SampleOrEnd(number(line, 1)));
+}
+
+// The bytes behind the k-th comma: the line as the writer puts it again and how many bytes follow it, or X and the refusal.
+fn of_line(line: &[u8], k: usize, may_come: MayCome) {
     let mut space = [0u8; 4096];
-    let n = bytes_of(line, &mut space);
+    let n = bytes_of(line, k, &mut space);
     put_read(&space[..n], may_come);
 }
 
@@ -36,7 +51,7 @@ fn put_parts(front: Front, rest: &[u8]) {
     }
 }
 
-fn put_again(what: Line) {
+fn put_again(what: EditionLine) {
     let mut out = [0u8; 512];
     let written = lines::write_line(&mut out, 0, what);
     put_front(&out, written);

@@ -17,17 +17,31 @@ pub(crate) fn line_end(input: &[u8], at: usize) -> usize
     end
 }
 
-// The number behind the k-th comma of a line.
-pub(crate) fn number(line: &[u8], k: usize) -> u64 {
-    let mut value = 0;
+// The place behind the k-th comma of a line; the line's length where there is no such comma.
+pub(crate) fn field_start(line: &[u8], k: usize) -> usize {
     let mut commas = 0;
     for i in 0..line.len() {
+        if commas == k {
+            return i;
+        }
+        if line[i] == b',' {
+            commas += 1;
+        }
+    }
+    line.len()
+}
+
+// The number behind the k-th comma of a line; 0 where there is no such comma.
+pub(crate) fn number(line: &[u8], k: usize) -> u64 {
+    let mut value = 0;
+    let mut i = field_start(line, k);
+    while i < line.len() {
         let byte = line[i];
         if byte == b',' {
-            commas += 1;
-        } else if commas == k {
-            value = with_digit(value, byte);
+            return value;
         }
+        value = with_digit(value, byte);
+        i += 1;
     }
     value
 }

@@ -11,8 +11,9 @@ use Rattle.quantity.specs.declared.refusal.Outcome.the-variants as O
 use Rattle.meter.specs.Card.{cardFields}
 use Rattle.lines.specs.Bytes.{comma, digitZero, letterE, letterS}
 use Rattle.lines.specs.Number.{mostDigits64, isDigit, mostDigits, isNumber, valueOf}
-use Rattle.lines.specs.Line.{LineKind, sample, totals}
+use Rattle.lines.specs.Line.{LineKind, sample, totals, kindOf, countOf, allNumbersOf}
 use Rattle.lines.specs.Reading.{shapeRows, numbersIn, sizeOf}
+use Rattle.lines.specs.declared.line.EditionLine.{EditionLine}
 use Rattle.lines.specs.declared.listed.Listed.{Listed}
 use Rattle.lines.specs.declared.number.Field.{Field}
 use Rattle.lines.specs.declared.number.Field.the-variants as N
@@ -64,11 +65,16 @@ mostBytes count = (1 + mostDigits64) * count
 abbrev pub mostNumbers : ℕ
 mostNumbers = cardFields
 
--- numbers as the code lists them: the first count of as many as a line can have
-pub record AreListed (ns : List ℕ) (l : Listed) : Type 0 where
+-- numbers as the code lists them: the first count of as many as a line can have, and how many of these it has
+pub record AreListed (ns : List ℕ) (shown : ℕ) (l : Listed) : Type 0 where
   pub few : l .count ≤ mostNumbers
   pub long : length (l .numbers) ≡ mostNumbers
   pub are : take (l .count) (l .numbers) ≡ ns
+  pub shown-is : l .shown ≡ shown
+  pub shown-few : l .shown ≤ l .count
+
+abbrev pub LineListed : EditionLine → Listed → Type 0
+LineListed line l = AreListed (allNumbersOf line) (countOf (line .edition) (kindOf (line .line))) l
 
 -- bytes that begin with a letter, which parts neither fields nor lines
 pub record Lettered (letter : ℕ) (bs : List ℕ) : Type 0 where
@@ -76,9 +82,13 @@ pub record Lettered (letter : ℕ) (bs : List ℕ) : Type 0 where
   pub first : getD bs 0 0 ≡ letter
   pub apart : comma < letter
 
--- the two letters of lines of four numbers, and the kind that each names
-abbrev pub FourLetter : ℕ → Type 0
-FourLetter letter = (letter ≡ letterS) ⊎ (letter ≡ letterE)
+-- the two letters of the lines after the card's, and the kind that each names
+abbrev pub LaterLetter : ℕ → Type 0
+LaterLetter letter = (letter ≡ letterS) ⊎ (letter ≡ letterE)
 
-unfoldable pub fourKind : ℕ → LineKind
-fourKind letter = cond (eqb letter letterE) totals sample
+unfoldable pub laterKind : ℕ → LineKind
+laterKind letter = cond (eqb letter letterE) totals sample
+
+-- none of those lines has more numbers than the last one in the newest edition
+abbrev pub mostLater : ℕ
+mostLater = 5

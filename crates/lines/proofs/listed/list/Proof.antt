@@ -12,10 +12,10 @@ use Rattle.lines.proofs.listed.list.Statement.{statement}
 use Rattle.lines.proofs.listed.list.Tie as tie
 
 abbrev Inv-loop : tie.InvT-loop
-Inv-loop numbers all₀ i₀ all i = (i ≤ length numbers) × ((length all ≡ mostNumbers) × (take i all ≡ take i numbers))
+Inv-loop numbers shown all₀ i₀ all i = (i ≤ length numbers) × ((length all ≡ mostNumbers) × (take i all ≡ take i numbers))
 
 abbrev μ-loop : tie.MeasureT-loop
-μ-loop numbers all₀ i₀ all i = length numbers - i
+μ-loop numbers shown all₀ i₀ all i = length numbers - i
 
 loop-holds : tie.Need-loop-holds Inv-loop μ-loop
 loop-holds c = (omega arith, (refl, refl))
@@ -49,7 +49,13 @@ returns c =
     let l = c .before .loop in
     let ns = now (c .before .before .args .numbers) in
     let e : l .i ≡ length ns = omega (arith, c .loop-test .left, l .inv .0) in
-    record { few = c .before .before .pre; long = l .inv .1 .0; are = (rw e at (l .inv .1 .1)) ∙ take-all (length ns) ns (omega arith) }
+    record {
+      few = c .before .before .pre .0;
+      long = l .inv .1 .0;
+      are = (rw e at (l .inv .1 .1)) ∙ take-all (length ns) ns (omega arith);
+      shown-is = refl;
+      shown-few = c .before .before .pre .1;
+    }
 
 pub list-spec : {M : Type 1} → statement M
 list-spec =

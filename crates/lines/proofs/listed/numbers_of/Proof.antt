@@ -2,7 +2,7 @@
 -- Assumes nothing.
 use borrow.Author.Needs.{needs}
 use Rattle.meter.specs.Card.{fieldsOf}
-use Rattle.lines.specs.Line.{numbersOf}
+use Rattle.lines.specs.Line.{kindOf, countOf, allNumbersOf}
 use Rattle.lines.proofs.listed.numbers_of.Statement.{statement}
 use Rattle.lines.proofs.listed.numbers_of.Tie as tie
 
@@ -39,24 +39,27 @@ enum-known-line-3 c = search needs
 slice-aggregate-list-4 : tie.Need-slice-aggregate-list-4
 slice-aggregate-list-4 c = search needs
 
+totals-count-requires : tie.Need-totals-count-requires
+totals-count-requires c κs = search needs
+
 list-requires-4 : tie.Need-list-requires-4
 list-requires-4 c κs = search needs
 
 returns : tie.Need-returns
-unfolding numbersOf
+unfolding kindOf countOf allNumbersOf
 returns c = rw (c .before .before .enum-told .given .1) (c .list .ensures)
 
 returns-2 : tie.Need-returns-2
-unfolding numbersOf fieldsOf
+unfolding kindOf countOf allNumbersOf fieldsOf
 returns-2 c = rw (c .before .before .before .line .given .1) (c .list2 .ensures)
 
 returns-3 : tie.Need-returns-3
-unfolding numbersOf
+unfolding kindOf countOf allNumbersOf
 returns-3 c = rw (c .before .before .before .line2 .given .1) (c .list3 .ensures)
 
 returns-4 : tie.Need-returns-4
-unfolding numbersOf
-returns-4 c = rw (c .before .before .before .line3 .given .1) (c .list4 .ensures)
+unfolding kindOf allNumbersOf
+returns-4 c = rw (c .before .before .before .before .line3 .given .1, ← c .before .totals-count .ensures .0) (c .list4 .ensures)
 
 pub numbers-of-spec : {M : Type 1} → statement M
 numbers-of-spec =
@@ -73,6 +76,7 @@ numbers-of-spec =
     list-requires-3
     enum-known-line-3
     slice-aggregate-list-4
+    totals-count-requires
     list-requires-4
     returns
     returns-2

@@ -12,7 +12,7 @@ first-byte-requires : tie.Need-first-byte-requires
 first-byte-requires c κs = search needs
 
 returns : tie.Need-returns
-returns c = sym (card-other (now (c .before .before .before .args .bytes)) (λ e. c .if1 .taken (c .before .first-byte .ensures ∙ e)))
+returns c = sym (card-other _ (c .before .before .before .pre) (now (c .before .before .before .args .bytes)) (λ e. c .if1 .taken (c .before .first-byte .ensures ∙ e)))
 
 slice-aggregate-read-numbers : tie.Need-slice-aggregate-read-numbers
 slice-aggregate-read-numbers c = search needs
@@ -37,13 +37,13 @@ returns-2 c =
     let s = c .before .before .before .before .before .before .before .before .before .before .before in
     let r = c .before .before .before .before .before .before .read-numbers in
     c .accepted-card .ensures
-    ∙ card-all (now (s .args .bytes)) _ _ _ _ (r .ensures) (c .before .before .before .numbers .given .1) (r .kept .1 .1 .0) (c .before .from-fields .ensures)
+    ∙ card-all _ (s .pre) (now (s .args .bytes)) _ _ _ _ (r .ensures) (c .before .before .before .numbers .given .1) (r .kept .1 .1 .0) (c .before .from-fields .ensures)
 
 returns-3 : tie.Need-returns-3
 returns-3 c =
     let s = c .before .before .before .before .before .before .before .before .before in
     let r = c .before .before .before .before .read-numbers in
-    card-none (now (s .args .bytes)) _ _ _ (r .ensures) (c .before .numbers2 .given .1) (r .kept .1 .1 .0)
+    card-none _ (s .pre) (now (s .args .bytes)) _ _ _ (r .ensures) (c .before .numbers2 .given .1) (r .kept .1 .1 .0)
 
 pub front-card-spec : {M : Type 1} → statement M
 front-card-spec =

@@ -12,14 +12,14 @@ use Rattle.lines.proofs.reading.front_sample_or_end.Tie as tie
 first-byte-requires : tie.Need-first-byte-requires
 first-byte-requires c κs = search needs
 
-front-four-requires : tie.Need-front-four-requires
-front-four-requires c κs = (lettered _ _ (sym (c .before .first-byte .ensures)) (omega arith), inl (c .if1 .taken))
+front-later-requires : tie.Need-front-later-requires
+front-later-requires c κs = (c .before .before .before .pre, (lettered _ _ (sym (c .before .first-byte .ensures)) (omega arith), inl (c .if1 .taken)))
 
 returns : tie.Need-returns
 returns c = search needs
 
-front-four-requires-2 : tie.Need-front-four-requires-2
-front-four-requires-2 c κs = (lettered _ _ (sym (c .before .before .first-byte .ensures)) (omega arith), inr (c .if2 .taken))
+front-later-requires-2 : tie.Need-front-later-requires-2
+front-later-requires-2 c κs = (c .before .before .before .before .pre, (lettered _ _ (sym (c .before .before .first-byte .ensures)) (omega arith), inr (c .if2 .taken)))
 
 returns-2 : tie.Need-returns-2
 returns-2 c = search needs
@@ -27,15 +27,15 @@ returns-2 c = search needs
 returns-3 : tie.Need-returns-3
 returns-3 c =
     let f = c .before .before .first-byte .ensures in
-    sym (neither-read (now (c .before .before .before .before .args .bytes)) (λ e. c .before .if1 .left (f ∙ e)) (λ e. c .if2 .left (f ∙ e)))
+    sym (neither-read _ (c .before .before .before .before .pre) (now (c .before .before .before .before .args .bytes)) (λ e. c .before .if1 .left (f ∙ e)) (λ e. c .if2 .left (f ∙ e)))
 
 pub front-sample-or-end-spec : {M : Type 1} → statement M
 front-sample-or-end-spec =
     tie.close
     (tie.spec
     first-byte-requires
-    front-four-requires
+    front-later-requires
     returns
-    front-four-requires-2
+    front-later-requires-2
     returns-2
     returns-3)

@@ -8,7 +8,7 @@ use denote.Ref.{now}
 use borrow.Author.Needs.{needs}
 use Rattle.lines.specs.declared.line.Line.{Line}
 use Rattle.lines.specs.Line.{kindOf, firstField, bytesOf, openingLength}
-use Rattle.lines.proofs.Openings.{opening-length}
+use Rattle.lines.proofs.Openings.{edition-most, opening-length}
 use Rattle.lines.proofs.Lent.{rest-all}
 use Rattle.lines.proofs.Puts.{lent-back}
 use Rattle.lines.proofs.writing.put_line.Statement.{statement}
@@ -27,13 +27,15 @@ part-put-opening-end : tie.Need-part-put-opening-end
 part-put-opening-end c = search needs
 
 -- the opening's size
-opening-size : (c : tie.After-enum-told) → length (bytesOf (c .before .before .before .args .line)) ≡ openingLength
-opening-size c = ap (λ (l : Line). length (bytesOf l)) (c .enum-told .given .1) ∙ opening-length
+opening-size : (c : tie.After-enum-told) → length (bytesOf (c .before .before .before .args .what)) ≡ openingLength
+opening-size c =
+    let s = c .before .before .before in
+    ap (λ (l : Line). length (bytesOf (record { edition = s .args .what .edition; line = l }))) (c .enum-told .given .1) ∙ opening-length _ (s .pre .1)
 
 put-opening-requires : tie.Need-put-opening-requires
 put-opening-requires c κs =
     let s = c .before .before .before .before in
-    rw rest-all (omega (arith, s .pre, opening-size (c .before), length-drop (s .args .at) (now (s .args .buf))))
+    (rw rest-all (omega (arith, s .pre .0, opening-size (c .before), length-drop (s .args .at) (now (s .args .buf)))), edition-most _ (s .pre .1))
 
 add-result : tie.Need-add-result
 add-result c = search needs
@@ -43,21 +45,21 @@ enum-told-2 c = search needs
 
 put-listed-requires : tie.Need-put-listed-requires
 unfolding kindOf firstField
-put-listed-requires c κs = (c .before .before .before .before .pre, ap (λ (l : Line). firstField (kindOf l)) (c .before .enum-told2 .given .1))
+put-listed-requires c κs = (c .before .before .before .before .pre .0, ap (λ (l : Line). firstField (kindOf l)) (c .before .enum-told2 .given .1))
 
 enum-told-3 : tie.Need-enum-told-3
 enum-told-3 c = search needs
 
 put-listed-requires-2 : tie.Need-put-listed-requires-2
 unfolding kindOf firstField
-put-listed-requires-2 c κs = (c .before .before .before .before .pre, ap (λ (l : Line). firstField (kindOf l)) (c .before .enum-told3 .given .1))
+put-listed-requires-2 c κs = (c .before .before .before .before .pre .0, ap (λ (l : Line). firstField (kindOf l)) (c .before .enum-told3 .given .1))
 
 enum-told-4 : tie.Need-enum-told-4
 enum-told-4 c = search needs
 
 put-listed-requires-3 : tie.Need-put-listed-requires-3
 unfolding kindOf firstField
-put-listed-requires-3 c κs = (c .before .before .before .before .pre, ap (λ (l : Line). firstField (kindOf l)) (c .before .enum-told4 .given .1))
+put-listed-requires-3 c κs = (c .before .before .before .before .pre .0, ap (λ (l : Line). firstField (kindOf l)) (c .before .enum-told4 .given .1))
 
 same-length : tie.Need-same-length
 same-length c = search needs
@@ -68,7 +70,7 @@ returns c =
     let t = c .before .before .before .before in
     let e = c .before .before .put-opening .ensures in (
       ap (λ (n : ℕ). s .args .at + n) (sym (opening-size t)),
-      lent-back (now (s .args .buf)) (s .args .at) openingLength (bytesOf (s .args .line)) (c .before .before .put-opening .last .0) (omega (arith, s .pre)) (sym (opening-size t)) (rw (t .enum-told .given .1) e),
+      lent-back (now (s .args .buf)) (s .args .at) openingLength (bytesOf (s .args .what)) (c .before .before .put-opening .last .0) (omega (arith, s .pre .0)) (sym (opening-size t)) (rw (t .enum-told .given .1) e),
     )
 
 same-length-2 : tie.Need-same-length-2

@@ -28,14 +28,8 @@ add-size c = search needs
 add-size-2 : tie.Need-add-size-2
 add-size-2 c = search needs
 
-array-share-prefix-numbers-2 : tie.Need-array-share-prefix-numbers-2
-array-share-prefix-numbers-2 c = search needs
-
-slice-aggregate-has-long : tie.Need-slice-aggregate-has-long
-slice-aggregate-has-long c = listed-length _ _ (c .before .before .before .before .before .numbers-of .ensures)
-
-has-long-requires : tie.Need-has-long-requires
-has-long-requires c κs = search needs
+has-refused-number-requires : tie.Need-has-refused-number-requires
+has-refused-number-requires c κs = search needs
 
 or-row-requires : tie.Need-or-row-requires
 or-row-requires c κs = search needs
@@ -45,11 +39,11 @@ or-row-requires-2 c κs = search needs
 
 returns : tie.Need-returns
 returns c =
-    let s = c .before .before .before .before .before .before .before .before .before in
-    let n = c .before .before .before .before .before .before .before .before .numbers-of in
-    let e = listed-size _ _ (n .ensures) _ _ (c .before .before .before .before .before .before .first-length .ensures .0) (c .before .before .before .before .fields-length .ensures .0) in
-    simp (c .or-row2 .ensures, c .before .or-row .ensures, c .before .before .has-long .ensures, n .ensures .are, e)
-    (accumulated (textRows (s .args .room) (s .args .line)))
+    let s = c .before .before .before .before .before .before .before .before in
+    let n = c .before .before .before .before .before .before .before .numbers-of in
+    let e = listed-size _ _ (n .ensures) _ _ (c .before .before .before .before .before .first-length .ensures .0) (c .before .before .before .fields-length .ensures .0) in
+    simp (c .or-row2 .ensures, c .before .or-row .ensures, c .before .before .has-refused-number .ensures, e)
+    (accumulated (textRows (s .args .room) (s .args .what)))
 
 pub text-refusal-spec : {M : Type 1} → statement M
 text-refusal-spec =
@@ -62,9 +56,7 @@ text-refusal-spec =
     fields-length-requires
     add-size
     add-size-2
-    array-share-prefix-numbers-2
-    slice-aggregate-has-long
-    has-long-requires
+    has-refused-number-requires
     or-row-requires
     or-row-requires-2
     returns)

@@ -21,7 +21,8 @@ enum-told c = search needs
 put-line-requires : tie.Need-put-line-requires
 put-line-requires c κs =
     let a = c .before .before .before .before .before .args in
-    unrefused (length (now (a .buf))) (a .at) (a .line) (sym (c .before .before .before .write-refusal .ensures) ∙ c .before .enum-told .given .1) .room
+    let u = unrefused (length (now (a .buf))) (a .at) (a .what) (sym (c .before .before .before .write-refusal .ensures) ∙ c .before .enum-told .given .1) in
+    (u .room, u .can .edition)
 
 enum-known-refusal : tie.Need-enum-known-refusal
 enum-known-refusal c = search needs
@@ -35,14 +36,14 @@ returns c =
     let a = c .before .before .before .before .before .before .before .before .args in
     let e = sym (c .before .before .before .before .before .before .write-refusal .ensures) ∙ c .before .before .before .before .enum-told .given .1 in
     let p = c .before .before .put-line .ensures in
-    (ap Next (p .0) ∙ sym (ap (placeOf (a .at + length (bytesOf (a .line)))) e), p .1)
+    (ap Next (p .0) ∙ sym (ap (placeOf (a .at + length (bytesOf (a .what)))) e), p .1)
 
 returns-2 : tie.Need-returns-2
 unfolding writtenOf placeOf bufferAfter
 returns-2 c =
     let a = c .before .before .before .before .before .args in
     let e = sym (c .before .before .before .write-refusal .ensures) ∙ c .before .refusal .given .1 in
-    (sym (ap (placeOf (a .at + length (bytesOf (a .line)))) e), refl)
+    (sym (ap (placeOf (a .at + length (bytesOf (a .what)))) e), refl)
 
 pub write-line-spec : {M : Type 1} → statement M
 write-line-spec =

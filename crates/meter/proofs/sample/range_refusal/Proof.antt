@@ -5,7 +5,7 @@ use borrow.Author.Needs.{needs}
 use native.Mathlib.Omega.{arith}
 use Rattle.quantity.proofs.Rows.{accumulated}
 use Rattle.meter.specs.Step.{rangeRows}
-use Rattle.meter.proofs.Accepted.{accepted-card, accepted-counts, product-fits}
+use Rattle.meter.proofs.Accepted.{accepted-card}
 use Rattle.meter.proofs.sample.range_refusal.Statement.{statement}
 use Rattle.meter.proofs.sample.range_refusal.Tie as tie
 
@@ -13,25 +13,25 @@ distance-requires : tie.Need-distance-requires
 distance-requires c κs = search needs
 
 cast-of-kelvins : tie.Need-cast-of-kelvins
-cast-of-kelvins c = omega (arith, accepted-card _ (c .before .before .pre .card))
+cast-of-kelvins c = omega (arith, accepted-card _ (c .before .before .pre .volumed .card))
 
 of-kelvins-requires : tie.Need-of-kelvins-requires
 of-kelvins-requires c κs = search needs
 
 cast-of-kelvins-2 : tie.Need-cast-of-kelvins-2
-cast-of-kelvins-2 c = omega (arith, accepted-card _ (c .before .before .before .before .pre .card))
+cast-of-kelvins-2 c = omega (arith, accepted-card _ (c .before .before .before .before .pre .volumed .card))
 
 of-kelvins-requires-2 : tie.Need-of-kelvins-requires-2
 of-kelvins-requires-2 c κs = search needs
 
 is-outside-theta-requires : tie.Need-is-outside-theta-requires
-is-outside-theta-requires c κs = c .before .before .before .before .before .pre .card
+is-outside-theta-requires c κs = c .before .before .before .before .before .pre .volumed .card
 
 or-row-requires : tie.Need-or-row-requires
 or-row-requires c κs = search needs
 
 is-outside-theta-requires-2 : tie.Need-is-outside-theta-requires-2
-is-outside-theta-requires-2 c κs = c .before .before .before .before .before .before .before .pre .card
+is-outside-theta-requires-2 c κs = c .before .before .before .before .before .before .before .pre .volumed .card
 
 or-row-requires-2 : tie.Need-or-row-requires-2
 or-row-requires-2 c κs = search needs
@@ -54,15 +54,8 @@ is-below-requires-3 c κs = search needs
 or-row-requires-5 : tie.Need-or-row-requires-5
 or-row-requires-5 c κs = search needs
 
-mul-or-row : tie.Need-mul-or-row
-mul-or-row c =
-    let p = c .before .before .before .before .before .before .before .before .before .before .before .before .before .before .before .before .before .pre in
-    record { fits = product-fits _ _ (omega (arith, accepted-card _ (p .card))) (accepted-counts _ _ (p .count) .seconds .1) }
-
-mul-or-row-2 : tie.Need-mul-or-row-2
-mul-or-row-2 c =
-    let p = c .before .before .before .before .before .before .before .before .before .before .before .before .before .before .before .before .before .pre in
-    omega (arith, p .volume-is, accepted-counts _ _ (p .count))
+is-flow-refused-requires : tie.Need-is-flow-refused-requires
+is-flow-refused-requires c κs = c .before .before .before .before .before .before .before .before .before .before .before .before .before .before .before .pre .volumed
 
 or-row-requires-6 : tie.Need-or-row-requires-6
 or-row-requires-6 c κs = search needs
@@ -70,27 +63,28 @@ or-row-requires-6 c κs = search needs
 returns : tie.Need-returns
 unfolding rangeRows
 returns c =
-    let p = c .before .before .before .before .before .before .before .before .before .before .before .before .before .before .before .before .before .before .pre in
+    let d = c .before .before .before .before .before .before .before .before .before .before .before .before .before .before .before .before .before in
+    let p = d .pre in
     simp (
       c .or-row6 .ensures,
-      c .before .before .before .or-row5 .ensures,
-      c .before .before .before .before .is-below3 .ensures,
-      c .before .before .before .before .before .or-row4 .ensures,
-      c .before .before .before .before .before .before .is-below2 .ensures,
-      c .before .before .before .before .before .before .before .or-row3 .ensures,
-      c .before .before .before .before .before .before .before .before .is-below .ensures,
-      c .before .before .before .before .before .before .before .before .before .or-row2 .ensures,
-      c .before .before .before .before .before .before .before .before .before .before .is-outside-theta2 .ensures,
-      c .before .before .before .before .before .before .before .before .before .before .before .or-row .ensures,
-      c .before .before .before .before .before .before .before .before .before .before .before .before .is-outside-theta .ensures,
-      c .before .before .before .before .before .before .before .before .before .before .before .before .before .of-kelvins2 .ensures,
-      c .before .before .before .before .before .before .before .before .before .before .before .before .before .before .before .of-kelvins .ensures,
-      c .before .before .before .before .before .before .before .before .before .before .before .before .before .before .before .before .before .distance .ensures,
-      p .volume-is,
+      c .before .is-flow-refused .ensures,
+      c .before .before .or-row5 .ensures,
+      c .before .before .before .is-below3 .ensures,
+      c .before .before .before .before .or-row4 .ensures,
+      c .before .before .before .before .before .is-below2 .ensures,
+      c .before .before .before .before .before .before .or-row3 .ensures,
+      c .before .before .before .before .before .before .before .is-below .ensures,
+      c .before .before .before .before .before .before .before .before .or-row2 .ensures,
+      c .before .before .before .before .before .before .before .before .before .is-outside-theta2 .ensures,
+      c .before .before .before .before .before .before .before .before .before .before .or-row .ensures,
+      c .before .before .before .before .before .before .before .before .before .before .before .is-outside-theta .ensures,
+      c .before .before .before .before .before .before .before .before .before .before .before .before .of-kelvins2 .ensures,
+      c .before .before .before .before .before .before .before .before .before .before .before .before .before .before .of-kelvins .ensures,
+      c .before .before .before .before .before .before .before .before .before .before .before .before .before .before .before .before .distance .ensures,
       p .supply-is,
       p .returned-is,
     )
-    (accumulated (rangeRows (c .before .before .before .before .before .before .before .before .before .before .before .before .before .before .before .before .before .before .args .card) (c .before .before .before .before .before .before .before .before .before .before .before .before .before .before .before .before .before .before .args .s)))
+    (accumulated (rangeRows (d .args .edition) (d .args .card) (d .args .s)))
 
 pub range-refusal-spec : {M : Type 1} → statement M
 range-refusal-spec =
@@ -111,7 +105,6 @@ range-refusal-spec =
     or-row-requires-4
     is-below-requires-3
     or-row-requires-5
-    mul-or-row
-    mul-or-row-2
+    is-flow-refused-requires
     or-row-requires-6
     returns)

@@ -11,8 +11,8 @@ use Rattle.meter.proofs.state.state_refusal.Tie as tie
 capped-count-requires : tie.Need-capped-count-requires
 capped-count-requires c κs = search needs
 
-passes-a-limit-requires : tie.Need-passes-a-limit-requires
-passes-a-limit-requires c κs = search needs
+is-state-refused-requires : tie.Need-is-state-refused-requires
+is-state-refused-requires c κs = search needs
 
 or-row-requires : tie.Need-or-row-requires
 or-row-requires c κs = search needs
@@ -25,7 +25,7 @@ unfolding stateRows
 returns c =
     let m = c .before .before .before .before .args .m in
     let n = m .accepted + m .refused in
-    simp (c .or-row2 .ensures, c .before .or-row .ensures, c .before .before .passes-a-limit .ensures, c .before .before .before .capped-count .ensures, passes largestCount n, equals largestCount n)
+    simp (c .or-row2 .ensures, c .before .or-row .ensures, c .before .before .is-state-refused .ensures, c .before .before .before .capped-count .ensures, passes largestCount n, equals largestCount n)
     (accumulated (stateRows m))
 
 pub state-refusal-spec : {M : Type 1} → statement M
@@ -33,7 +33,7 @@ state-refusal-spec =
     tie.close
     (tie.spec
     capped-count-requires
-    passes-a-limit-requires
+    is-state-refused-requires
     or-row-requires
     or-row-requires-2
     returns)

@@ -22,10 +22,11 @@ enum-known-answer c = search needs
 take-amounts-requires : tie.Need-take-amounts-requires
 take-amounts-requires c κs =
     let p = c .before .before .before .before .pre in
+    let q = p .pair .volumed in
     record {
-      counted = record { before-sample = record { card = p .pair .card; state = p .state }; count = p .pair .count };
+      counted = record { before-sample = record { card = q .card; state = p .state }; count = q .count };
       heat-is = same-heat _ _ (sym (c .before .answer .given .1) ∙ told (c .before .before .before));
-      volume-is = p .pair .volume-is;
+      volume-is = q .volume-is;
     }
 
 enum-known-answer-2 : tie.Need-enum-known-answer-2

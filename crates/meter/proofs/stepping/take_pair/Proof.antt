@@ -17,9 +17,7 @@ paired : (c : tie.After-struct-known2) →
 paired c =
     let p = c .before .before .before .pre in
     record {
-      card = p .counted .before-sample .card;
-      count = p .counted .count;
-      volume-is = refl;
+      volumed = record { card = p .counted .before-sample .card; count = p .counted .count; volume-is = refl };
       supply-is = p .supply-is;
       returned-is = p .returned-is;
     }
@@ -42,7 +40,7 @@ take-heat-requires c κs =
     record {
       state = d .before .before .before .before .pre .counted .before-sample .state;
       pair = paired (d .before);
-      range = passed (rangeRows _ _) _ (d .range-refusal .ensures) (c .enum-told .given .1);
+      range = passed (rangeRows _ _ _) _ (d .range-refusal .ensures) (c .enum-told .given .1);
     }
 
 enum-known-refusal : tie.Need-enum-known-refusal
@@ -55,13 +53,13 @@ returns : tie.Need-returns
 returns c =
     let d = c .before .before .before in
     let a = d .before .before .before .before .args in
-    goes-on (a .m) (a .s) (rangeRows (a .m .card) (a .s)) (limitRows (a .m) (a .s)) _ _ (d .range-refusal .ensures) (c .before .enum-told .given .1) (c .take-heat .ensures)
+    goes-on (a .m) (a .s) (rangeRows (a .m .edition) (a .m .card) (a .s)) (limitRows (a .m) (a .s)) _ _ (d .range-refusal .ensures) (c .before .enum-told .given .1) (c .take-heat .ensures)
 
 returns-2 : tie.Need-returns-2
 returns-2 c =
     let d = c .before .before .before .before in
     let a = d .before .before .before .before .args in
-    stops (a .m) (a .s) (rangeRows (a .m .card) (a .s)) (limitRows (a .m) (a .s)) _ _ _ (d .range-refusal .ensures) (c .before .before .refusal .given .1) (c .refuse .ensures)
+    stops (a .m) (a .s) (rangeRows (a .m .edition) (a .m .card) (a .s)) (limitRows (a .m) (a .s)) _ _ _ (d .range-refusal .ensures) (c .before .before .refusal .given .1) (c .refuse .ensures)
 
 pub take-pair-spec : {M : Type 1} → statement M
 take-pair-spec =

@@ -53,13 +53,13 @@ returns : tie.Need-returns
 returns c =
     let d = c .before .before .before .before .before in
     let a = d .before .before .before .args in
-    goes-on (a .m) (a .s) (readingRows (a .m .card) (a .s)) (rangeRows (a .m .card) (a .s) ++ limitRows (a .m) (a .s)) _ _ (rows d) (c .before .before .before .enum-told .given .1) (c .take-pair .ensures)
+    goes-on (a .m) (a .s) (readingRows (a .m .card) (a .s)) (rangeRows (a .m .edition) (a .m .card) (a .s) ++ limitRows (a .m) (a .s)) _ _ (rows d) (c .before .before .before .enum-told .given .1) (c .take-pair .ensures)
 
 returns-2 : tie.Need-returns-2
 returns-2 c =
     let d = c .before .before .before .before in
     let a = d .before .before .before .args in
-    stops (a .m) (a .s) (readingRows (a .m .card) (a .s)) (rangeRows (a .m .card) (a .s) ++ limitRows (a .m) (a .s)) _ _ _ (rows d) (c .before .before .refusal .given .1) (c .refuse .ensures)
+    stops (a .m) (a .s) (readingRows (a .m .card) (a .s)) (rangeRows (a .m .edition) (a .m .card) (a .s) ++ limitRows (a .m) (a .s)) _ _ _ (rows d) (c .before .before .refusal .given .1) (c .refuse .ensures)
 
 pub take-readings-spec : {M : Type 1} → statement M
 take-readings-spec =

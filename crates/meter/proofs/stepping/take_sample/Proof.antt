@@ -29,13 +29,13 @@ returns : tie.Need-returns
 returns c =
     let d = c .before .before .before in
     let a = d .before .before .args in
-    goes-on (a .m) (a .s) (countRows (a .m .card) (a .s)) (readingRows (a .m .card) (a .s) ++ (rangeRows (a .m .card) (a .s) ++ limitRows (a .m) (a .s))) _ _ (d .count-refusal .ensures) (c .before .enum-told .given .1) (c .take-readings .ensures)
+    goes-on (a .m) (a .s) (countRows (a .m .card) (a .s)) (readingRows (a .m .card) (a .s) ++ (rangeRows (a .m .edition) (a .m .card) (a .s) ++ limitRows (a .m) (a .s))) _ _ (d .count-refusal .ensures) (c .before .enum-told .given .1) (c .take-readings .ensures)
 
 returns-2 : tie.Need-returns-2
 returns-2 c =
     let d = c .before .before .before .before in
     let a = d .before .before .args in
-    stops (a .m) (a .s) (countRows (a .m .card) (a .s)) (readingRows (a .m .card) (a .s) ++ (rangeRows (a .m .card) (a .s) ++ limitRows (a .m) (a .s))) _ _ _ (d .count-refusal .ensures) (c .before .before .refusal .given .1) (c .refuse .ensures)
+    stops (a .m) (a .s) (countRows (a .m .card) (a .s)) (readingRows (a .m .card) (a .s) ++ (rangeRows (a .m .edition) (a .m .card) (a .s) ++ limitRows (a .m) (a .s))) _ _ _ (d .count-refusal .ensures) (c .before .before .refusal .given .1) (c .refuse .ensures)
 
 pub take-sample-spec : {M : Type 1} → statement M
 take-sample-spec =

@@ -9,10 +9,13 @@ use Rattle.vectors.proofs.hexadecimal.bytes_of.Statement.{statement}
 use Rattle.vectors.proofs.hexadecimal.bytes_of.Tie as tie
 
 abbrev Inv-loop : tie.InvT-loop
-Inv-loop line buf₀ n₀ i₀ buf n i = (n ≤ length buf) × (length buf ≡ length buf₀)
+Inv-loop line k buf₀ n₀ i₀ buf n i = (n ≤ length buf) × (length buf ≡ length buf₀)
 
 abbrev μ-loop : tie.MeasureT-loop
-μ-loop line buf₀ n₀ i₀ buf n i = length line - i
+μ-loop line k buf₀ n₀ i₀ buf n i = length line - i
+
+field-start-requires : tie.Need-field-start-requires Inv-loop μ-loop
+field-start-requires c κs = search needs
 
 loop-holds : tie.Need-loop-holds Inv-loop μ-loop
 loop-holds c = search needs
@@ -82,6 +85,7 @@ bytes-of-spec =
     (tie.spec
     Inv-loop
     μ-loop
+    field-start-requires
     loop-holds
     same-length
     returns
