@@ -1,15 +1,15 @@
 -- Laws of `largest`.
 -- Assumes nothing.
-use mathlib.Core.Path.{_≡_, refl, sym, _∙_, ap}
+use mathlib.Core.Path.{_≡_, refl, ap}
 use mathlib.Core.Bool.{Bool, true, false}
-use Prim.Native.Nat.{ℕ, zero, suc, _+_, _≤_, _<_}
-use native.Mathlib.Nat.{add-zero, add-suc, le-dest, le-refl, le-of-eq, eq-or-lt-of-le}
+use Prim.Native.Nat.{ℕ, zero, suc, _≤_, _<_}
+use native.Mathlib.Nat.{le-refl, le-of-eq, eq-or-lt-of-le}
 use mathlib.Core.Logic.{_⊎_, inl, inr}
 use native.Mathlib.Omega.{arith}
 use Rattle.platinum.specs.Temperature.{largest}
 
 -- where the test holds at the top, that is the largest
-pub at-top : (p : ℕ → Bool) (t : ℕ) → p t ≡ true → largest p t ≡ t
+at-top : (p : ℕ → Bool) (t : ℕ) → p t ≡ true → largest p t ≡ t
 unfolding largest
 at-top p zero e = refl
 at-top p (suc t) e = rw (e, largest)
@@ -17,19 +17,6 @@ at-top p (suc t) e = rw (e, largest)
 lower : (p : ℕ → Bool) (t : ℕ) → p (suc t) ≡ false → largest p (suc t) ≡ largest p t
 unfolding largest
 lower p t e = rw (e, largest)
-
--- numbers at the top at which the test fails can be left out
-skip : (p : ℕ → Bool) (a n : ℕ) → ((t : ℕ) → a < t → t ≤ a + n → p t ≡ false) → largest p (a + n) ≡ largest p a
-skip p a zero f = ap (largest p) (add-zero a)
-skip p a (suc n) f =
-    ap (largest p) (add-suc a n)
-    ∙ lower p (a + n) (f (suc (a + n)) (omega arith) (omega arith))
-    ∙ skip p a n (λ t g h. f t g (omega arith))
-
-pub leave-out : (p : ℕ → Bool) (a b : ℕ) → a ≤ b → ((t : ℕ) → a < t → t ≤ b → p t ≡ false) → largest p b ≡ largest p a
-leave-out p a b h f =
-    let d = le-dest h in
-    ap (largest p) (sym (d .1)) ∙ skip p a (d .0) (λ t g l. f t g (omega (arith, d .1)))
 
 -- it is at most the top
 pub bounded : (p : ℕ → Bool) (b : ℕ) → largest p b ≤ b

@@ -3,5 +3,8 @@ pub mod Answer
 pub mod Ends
 pub mod Growth
 pub mod Largest
+pub mod Line
+pub mod Near
 pub mod Resistances
 pub mod Shares
+pub mod Start

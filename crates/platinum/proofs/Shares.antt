@@ -1,32 +1,45 @@
 -- The largest temperature whose share of the curve is at most a given one.
 -- Assumes nothing.
-use mathlib.Core.Path.{_≡_, _∙_, ap, fun-ext}
-use mathlib.Core.Bool.{Bool}
-use Prim.Native.Nat.{ℕ, _-_, _*_, _/_, _≤_, _<_}
-use native.Mathlib.Nat.{le-trans, le-div-iff-mul-le, div-lt-iff-lt-mul}
+use mathlib.Core.Path.{_≡_, refl, ap, fun-ext}
+use mathlib.Core.Bool.{Bool, true, false}
+use Prim.Native.Nat.{ℕ, _*_, _/_, _≤_, _<_}
+use native.Mathlib.Nat.{le-div-iff-mul-le, div-lt-iff-lt-mul}
 use native.Mathlib.Omega.{arith}
 use lib.Dec.{leb}
-use borrow.Author.Tests.{le-leb, lt-leb}
+use borrow.Author.Tests.{le-leb, leb-true, leb-false}
 use Rattle.quantity.proofs.Comparing.{same-at-most}
 use Rattle.quantity.specs.Units.{lastHundredth}
 use Rattle.platinum.specs.Temperature.{W, largest}
 use Rattle.platinum.proofs.Growth.{grows-or-stays}
-use Rattle.platinum.proofs.Largest.{at-top, leave-out}
+use Rattle.platinum.proofs.Largest.{bounded, holds, at-least}
 
-abbrev pub reaches : ℕ → ℕ → Bool
+abbrev reaches : ℕ → ℕ → Bool
 reaches share t = leb (W t) share
 
--- from a t whose share is larger, only what is below it counts
-pub below-it : (share t b : ℕ) → share < W t → 1 ≤ t → t ≤ b → b ≤ lastHundredth → largest (reaches share) b ≡ largest (reaches share) (t - 1)
-below-it share t b h o g l =
-    leave-out (reaches share) (t - 1) b (omega arith)
-    (λ s m n. lt-leb (W s) share (le-trans h (grows-or-stays t s (omega arith) (omega arith))))
+-- the temperature of a share
+abbrev pub answerOf : ℕ → ℕ
+answerOf share = largest (reaches share) lastHundredth
 
--- a t whose share is reached, and with nothing above it, is the one
-pub is-top : (share t b : ℕ) → W t ≤ share → t ≤ b → b ≤ t → largest (reaches share) b ≡ t
-is-top share t b h g l =
-    let e : b ≡ t = omega arith in
-    ap (largest (reaches share)) e ∙ at-top (reaches share) t (le-leb (W t) share h)
+module _ (share : ℕ) where
+  pub answer-bounded : answerOf share ≤ lastHundredth
+  answer-bounded = bounded (reaches share) lastHundredth
+
+  -- the curve there is at most the share ..
+  pub answer-reached : W 0 ≤ share → W (answerOf share) ≤ share
+  answer-reached h = leb-true _ _ (holds (reaches share) lastHundredth (le-leb (W 0) share h))
+
+  -- .. and at nothing above it
+  pub answer-largest : (t : ℕ) → t ≤ lastHundredth → W t ≤ share → t ≤ answerOf share
+  answer-largest t l h = at-least (reaches share) lastHundredth t l (le-leb (W t) share h)
+
+  -- so a t at which the curve lies above the share is above the answer
+  pub above-answer : (t : ℕ) → W 0 ≤ share → share < W t → answerOf share < t
+  above-answer t h g = go (leb t (answerOf share)) refl
+    where
+      go : (b : Bool) → leb t (answerOf share) ≡ b → answerOf share < t
+      go true e =
+          absurd (omega (arith, g, answer-reached h, grows-or-stays t (answerOf share) (leb-true t (answerOf share) e) answer-bounded))
+      go false e = leb-false t (answerOf share) e
 
 -- w is at most x / n, rounded down, where n × w is at most x
 pub divided : (n w x : ℕ) → 0 < n → n * w ≤ x → w ≤ x / n

@@ -2,4 +2,5 @@
 pub mod Sensor
 pub mod Temperature
 pub mod Refusal
+pub mod Line
 pub mod Theorems

@@ -1,7 +1,8 @@
--- What is proved of the temperature's definition, statement by statement. Each is proved in proofs/ under its name in small letters.
+-- What is proved of the temperature's definition, and of where the search for it begins, statement by statement. Each is proved in proofs/ under
+-- its name in small letters.
 use mathlib.Core.Path.{_≡_}
 use mathlib.Core.Logic.{_↔_}
-use Prim.Native.Nat.{ℕ, _+_, _*_, _≤_, _<_}
+use Prim.Native.Nat.{ℕ, suc, _+_, _*_, _≤_, _<_}
 use Rattle.quantity.specs.Refusals.{firstOf}
 use Rattle.quantity.specs.Range.{endNumber}
 use Rattle.quantity.specs.Units.{lastHundredth}
@@ -14,6 +15,7 @@ use Rattle.quantity.specs.declared.range.End.the-variants.{Low, High}
 use Rattle.platinum.specs.Sensor.{resistanceOf, sensorOf}
 use Rattle.platinum.specs.Temperature.{W, scaled, ofResistance, temperatureOf, HasTemperature, IsTemperature}
 use Rattle.platinum.specs.Refusal.{refusalOf, endRows, aloneRows}
+use Rattle.platinum.specs.Line.{lineAt, aboveLine, shareOf, linePoint, startOf, Within, startReach}
 use Rattle.platinum.specs.declared.sensor.Sensor.{Sensor}
 use Rattle.platinum.specs.declared.sensor.SensorField.the-variants.{Kind}
 use Rattle.platinum.specs.declared.reading.Measured.the-variants.{At}
@@ -71,3 +73,23 @@ AnswerSaysEnd =
 abbrev pub RowsSayEnd : Type 0
 RowsSayEnd =
     (p : Position) (field r : ℕ) (s : Sensor) → sensorOf field ≡ Kind s → SaysEnd p (resistanceOf s) r (firstOf (endRows p (temperatureOf field r)))
+
+-- the curve lies above the straight line by 5775×t×(18000−t), which is nothing at both ends: the line goes through them
+abbrev pub CurveAboveLine : Type 0
+CurveAboveLine = (t : ℕ) → t ≤ lastHundredth → W t ≡ lineAt t + aboveLine t
+
+-- "Between 0 and 180 °C readings lie within 1.25 °C of the straight line through both ends" (document 02, request 3): the line's point is the
+-- temperature of the reading or lies above it, by no more than 1.24 °C
+abbrev pub LinePointNear : Type 0
+LinePointNear =
+    (n r : ℕ) (t : Temperature) → 0 < n → ofResistance n r ≡ At t → (t .0 ≤ linePoint (shareOf n r)) × (linePoint (shareOf n r) ≤ t .0 + 124)
+
+-- "For every sensor and every reading with a temperature, [..] the start is within 1.25 °C of the answer": for any n above zero, as every
+-- sensor's is
+abbrev pub StartNear : Type 0
+StartNear = (n r : ℕ) (t : Temperature) → 0 < n → ofResistance n r ≡ At t → Within startReach (startOf (shareOf n r)) (t .0)
+
+-- it is even the answer or the hundredth above it
+abbrev pub StartAtMostOneAbove : Type 0
+StartAtMostOneAbove =
+    (n r : ℕ) (t : Temperature) → 0 < n → ofResistance n r ≡ At t → (t .0 ≤ startOf (shareOf n r)) × (startOf (shareOf n r) ≤ suc (t .0))

@@ -1,6 +1,7 @@
 // Platinum resistance thermometers (IEC 60751): the sensor kinds and the temperature of a reading.
 mod curve;
 mod reading;
+mod search;
 mod sensor;
 
 pub use reading::Measured;

@@ -1,6 +1,6 @@
 // The temperature operation (document 01, "Temperature" and the row "Temperature alone").
-use crate::curve::largest_at_most;
 use crate::curve::share_at;
+use crate::search::largest_at_most;
 use crate::sensor::Sensor;
 use crate::sensor::SensorField;
 use quantity::End;

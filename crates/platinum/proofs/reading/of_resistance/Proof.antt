@@ -1,5 +1,5 @@
 -- `platinum::reading::of_resistance` meets its contract: the two tests are those of `ofResistance`, and past them the product fits and
--- the share of the curve has a largest temperature.
+-- the share lies between both ends of the curve.
 -- Assumes nothing.
 use borrow.Author.Needs.{needs}
 use mathlib.Core.Path.{_≡_, _∙_, ap}
@@ -10,7 +10,8 @@ use borrow.Author.Tests.{ltb-false}
 use Rattle.quantity.specs.Units.{lastHundredth}
 use Rattle.platinum.specs.Temperature.{W, scaled, ofResistance}
 use Rattle.platinum.specs.declared.reading.Measured.the-variants.{At}
-use Rattle.platinum.proofs.Shares.{divided, by-division}
+use Rattle.platinum.proofs.Near.{between-ends}
+use Rattle.platinum.proofs.Shares.{by-division}
 use Rattle.platinum.proofs.reading.of_resistance.Statement.{statement}
 use Rattle.platinum.proofs.reading.of_resistance.Tie as tie
 
@@ -56,7 +57,7 @@ div-share : tie.Need-div-share
 div-share c = search needs
 
 largest-at-most-requires : tie.Need-largest-at-most-requires
-largest-at-most-requires c κs = divided _ _ _ (omega arith) (not-low (c .before .before .before))
+largest-at-most-requires c κs = between-ends _ _ (omega arith) (record { from = not-low (c .before .before .before); to = not-high c })
 
 returns-3 : tie.Need-returns-3
 unfolding ofResistance
