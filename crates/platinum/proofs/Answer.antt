@@ -6,16 +6,18 @@ use mathlib.Core.Bool.{Bool, true, false, cond}
 use Prim.Native.Nat.{ℕ, _*_, _≤_}
 use native.Mathlib.Nat.{le-antisymm}
 use native.Mathlib.Omega.{arith}
-use lib.Dec.{leb, ltb}
+use lib.Dec.{leb, ltb, lit≤}
 use borrow.Author.Tests.{le-ltb, le-leb, ltb-false, leb-true}
+use Rattle.quantity.specs.Largest.{largest}
 use Rattle.quantity.specs.Refusals.{row, firstOf}
+use Rattle.quantity.proofs.Largest.{bounded, holds, at-least}
 use Rattle.quantity.specs.declared.units.Temperature.{Temperature}
 use Rattle.quantity.specs.declared.range.Position.{Position}
 use Rattle.quantity.specs.declared.range.Position.the-variants.{Alone}
 use Rattle.quantity.specs.declared.range.End.the-variants.{Low, High}
 use Rattle.platinum.specs.Sensor.{resistanceOf, sensorOf, isUnknown}
 use Rattle.quantity.specs.Units.{lastHundredth}
-use Rattle.platinum.specs.Temperature.{W, scaled, largest, ofResistance, ofKind, temperatureOf, HasTemperature, IsTemperature}
+use Rattle.platinum.specs.Temperature.{W, scaled, ofResistance, ofKind, temperatureOf, HasTemperature, IsTemperature}
 use Rattle.platinum.specs.Refusal.{refusalOf, endRows, aloneRows}
 use Rattle.platinum.specs.Theorems.{Answered, Exists, Unique, Exactly, WithinRange, LargerReading, FirstRow}
 use Rattle.platinum.specs.declared.sensor.Sensor.{Sensor}
@@ -23,7 +25,6 @@ use Rattle.platinum.specs.declared.sensor.SensorField.{SensorField}
 use Rattle.platinum.specs.declared.sensor.SensorField.the-variants.{Kind, Unknown}
 use Rattle.platinum.specs.declared.reading.Measured.{Measured}
 use Rattle.platinum.specs.declared.reading.Measured.the-variants.{At, Outside}
-use Rattle.platinum.proofs.Largest.{bounded, holds, at-least}
 
 module _ (n r : ℕ) where
   test : ℕ → Bool
@@ -34,7 +35,7 @@ module _ (n r : ℕ) where
   unfolding test
   is-temperature h = record {
     in-range = bounded test lastHundredth;
-    reached = leb-true _ _ (holds test lastHundredth (le-leb _ _ h));
+    reached = leb-true _ _ (holds test lastHundredth 0 (lit≤ tt) (le-leb _ _ h));
     largest-one = λ s g e. at-least test lastHundredth s g (le-leb _ _ e);
   }
 

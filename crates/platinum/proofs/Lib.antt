@@ -2,7 +2,6 @@
 pub mod Answer
 pub mod Ends
 pub mod Growth
-pub mod Largest
 pub mod Line
 pub mod Near
 pub mod Resistances

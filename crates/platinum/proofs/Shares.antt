@@ -5,13 +5,14 @@ use mathlib.Core.Bool.{Bool, true, false}
 use Prim.Native.Nat.{ℕ, _*_, _/_, _≤_, _<_}
 use native.Mathlib.Nat.{le-div-iff-mul-le, div-lt-iff-lt-mul}
 use native.Mathlib.Omega.{arith}
-use lib.Dec.{leb}
+use lib.Dec.{leb, lit≤}
 use borrow.Author.Tests.{le-leb, leb-true, leb-false}
 use Rattle.quantity.proofs.Comparing.{same-at-most}
+use Rattle.quantity.proofs.Largest.{bounded, holds, at-least}
+use Rattle.quantity.specs.Largest.{largest}
 use Rattle.quantity.specs.Units.{lastHundredth}
-use Rattle.platinum.specs.Temperature.{W, largest}
+use Rattle.platinum.specs.Temperature.{W}
 use Rattle.platinum.proofs.Growth.{grows-or-stays}
-use Rattle.platinum.proofs.Largest.{bounded, holds, at-least}
 
 abbrev reaches : ℕ → ℕ → Bool
 reaches share t = leb (W t) share
@@ -26,7 +27,7 @@ module _ (share : ℕ) where
 
   -- the curve there is at most the share ..
   pub answer-reached : W 0 ≤ share → W (answerOf share) ≤ share
-  answer-reached h = leb-true _ _ (holds (reaches share) lastHundredth (le-leb (W 0) share h))
+  answer-reached h = leb-true _ _ (holds (reaches share) lastHundredth 0 (lit≤ tt) (le-leb (W 0) share h))
 
   -- .. and at nothing above it
   pub answer-largest : (t : ℕ) → t ≤ lastHundredth → W t ≤ share → t ≤ answerOf share

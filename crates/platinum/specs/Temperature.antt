@@ -1,8 +1,9 @@
 -- The temperature of a reading, document 01, "Temperature". A reading r is in 0.0001 ohm, n is a sensor's resistance at 0 °C in ohm,
 -- t counts hundredths of °C.
-use Prim.Native.Nat.{ℕ, zero, suc, _+_, _-_, _*_, _≤_}
-use mathlib.Core.Bool.{Bool, true, false, cond}
+use Prim.Native.Nat.{ℕ, _+_, _-_, _*_, _≤_}
+use mathlib.Core.Bool.{cond}
 use lib.Dec.{leb, ltb}
+use Rattle.quantity.specs.Largest.{largest}
 use Rattle.quantity.specs.Units.{lastHundredth}
 use Rattle.quantity.specs.declared.range.End.the-variants.{Low, High}
 use Rattle.platinum.specs.Sensor.{resistanceOf, sensorOf}
@@ -18,11 +19,6 @@ W t = 100000000000000 + 3908300000 * t - 5775 * t * t
 -- r × 10^10
 abbrev pub scaled : ℕ → ℕ
 scaled r = r * 10000000000
-
--- the largest t of 0..top for which a test holds, of a test that holds at 0
-unfoldable pub largest : (ℕ → Bool) → ℕ → ℕ
-largest test zero = zero
-largest test (suc t) = elim (test (suc t)) [ true ↦ suc t | false ↦ largest test t ]
 
 -- "The temperature of r is the largest t with n×W(t) ≤ r×10000000000. It exists exactly when n×W(0) ≤ r×10000000000 ≤ n×W(18000)";
 -- where it does not, the answer is the end of the range that r misses

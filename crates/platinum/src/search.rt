@@ -4,8 +4,9 @@ use crate::curve::share_at;
 ghost use mathlib.Core.Path.{_≡_};
 ghost use Prim.Native.Nat.{_≤_};
 ghost use lib.Dec.{leb};
+ghost use Rattle.quantity.specs.Largest.{largest};
 ghost use Rattle.quantity.specs.Units.{lastHundredth};
-ghost use Rattle.platinum.specs.Temperature.{W, largest};
+ghost use Rattle.platinum.specs.Temperature.{W};
 ghost use Rattle.platinum.specs.Line.{BetweenEnds, Within, linePoint, nextFrom, startOf, tryReach};
 
 // By how much the line rises in a hundredth of a degree.

@@ -6,5 +6,6 @@ pub mod Distance
 pub mod Ends
 pub mod Floors
 pub mod Fractions
+pub mod Largest
 pub mod Rows
 pub mod Span

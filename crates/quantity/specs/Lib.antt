@@ -3,4 +3,5 @@ pub mod Units
 pub mod Refusals
 pub mod Range
 pub mod Fractions
+pub mod Largest
 pub mod Theorems

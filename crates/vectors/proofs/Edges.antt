@@ -1,9 +1,10 @@
 -- Document 01's marked (†) edges, one of them as document 02 changed it, computed by the definitions.
 -- Assumes nothing.
 use mathlib.Core.Path.{refl}
+use Rattle.quantity.specs.Largest.{largest}
 use Rattle.quantity.specs.Range.{endNumber}
 use Rattle.platinum.specs.Sensor.{resistanceOf, sensorOf}
-use Rattle.platinum.specs.Temperature.{W, largest, ofResistance, temperatureOf}
+use Rattle.platinum.specs.Temperature.{W, ofResistance, temperatureOf}
 use Rattle.platinum.specs.Refusal.{refusalOf}
 use Rattle.verdict.proofs.Edges.{verdict-edges}
 use Rattle.vectors.specs.Theorems.{MarkedEdges}
