@@ -1,10 +1,14 @@
--- What is proved of the refusal table and of the numbers of a missed range, statement by statement. Each is proved under its name in small
--- letters, in proofs/Rows.antt or, the last, in proofs/Ends.antt.
+-- What is proved of the refusal table, of the numbers of a missed range, and of divisors and lowest terms, statement by statement. Each is
+-- proved under its name in small letters, in proofs/Rows.antt, Ends.antt, Divisors.antt or LowestTerms.antt.
 use mathlib.Core.Path.{_≡_}
 use mathlib.Core.List.{List, [], _∷_}
 use mathlib.Core.Logic.{_↔_}
+use Prim.Native.Nat.{ℕ}
+use Rattle.quantity.specs.Divisors.{largestDivisor, IsLargestDivisor, InLowestTerms, reduced}
+use Rattle.quantity.specs.Fractions.{whole, IsFraction, Same, Represents}
 use Rattle.quantity.specs.Range.{endNumber}
 use Rattle.quantity.specs.Refusals.{Row, firstOf, NoneApplies, orRow}
+use Rattle.quantity.specs.declared.fraction.Fraction.{Fraction}
 use Rattle.quantity.specs.declared.range.End.{End}
 use Rattle.quantity.specs.declared.range.Position.{Position}
 use Rattle.quantity.specs.declared.refusal.Outcome.{Outcome}
@@ -26,3 +30,19 @@ NoRefusalExactly = (rs : List Row) → (firstOf rs ≡ Accepted) ↔ NoneApplies
 -- A number tells the end that was missed, whatever the places of the check: no place gives for one end what any gives for the other.
 abbrev pub TellsEnd : Type 0
 TellsEnd = (p q : Position) (e f : End) → endNumber p e ≡ endNumber q f → e ≡ f
+
+-- Of any two numbers, the largest common divisor divides both, and every number that divides both divides it; no other number does so.
+abbrev pub DivisorExactly : Type 0
+DivisorExactly = (g a b : ℕ) → (g ≡ largestDivisor a b) ↔ IsLargestDivisor g a b
+
+-- Reduced, a fraction is the same fraction in lowest terms; and there is only one pair of numbers that is.
+abbrev pub ReducedExactly : Type 0
+ReducedExactly = (r x : Fraction) → IsFraction x → (r ≡ reduced x) ↔ (Represents r x × InLowestTerms r)
+
+-- Equal fractions have the same lowest terms.
+abbrev pub SameReduced : Type 0
+SameReduced = (x y : Fraction) → IsFraction x → IsFraction y → Same x y → reduced x ≡ reduced y
+
+-- A fraction that is a whole number is that number over 1.
+abbrev pub WholeReduced : Type 0
+WholeReduced = (x : Fraction) (n : ℕ) → IsFraction x → Same x (whole n) → reduced x ≡ whole n

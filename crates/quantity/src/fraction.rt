@@ -1,7 +1,28 @@
-// An exact fraction of two whole numbers of 64 bits (document 01, "Meter's step": "two whole numbers, the lower one above zero").
+// An exact fraction of two whole numbers of 64 bits (document 01, "Meter's step": "two whole numbers, the lower one above zero"), and its
+// lowest terms (document 02, request 4).
+use crate::divisor::largest_divisor;
+ghost use mathlib.Core.Path.{_≡_};
+ghost use Rattle.quantity.specs.Divisors.{reduced};
+
 // Any content can stand here.
 pub struct Fraction {
     pub numerator: u64,
     // the lower number
     pub denominator: u64,
+}
+
+impl Fraction {
+    // The same fraction in lowest terms. Two zeros, which are no fraction, have none and stay as they are.
+    pub fn reduced(self) -> Fraction
+        ensures { λ r. ⌜ r ≡ reduced self ⌝ }
+    {
+        let divisor = largest_divisor(self.numerator, self.denominator);
+        if divisor == 0 {
+            return self;
+        }
+        Fraction {
+            numerator: self.numerator / divisor,
+            denominator: self.denominator / divisor,
+        }
+    }
 }

@@ -1,11 +1,13 @@
-// What every crate shares: the units of temperature and of difference, exact fractions, the refusal table's rows, the
-// numbers of a temperature's two ends, and the comparison of two products of 64-bit numbers.
+// What every crate shares: the units of temperature and of difference, exact fractions and their lowest terms, the refusal
+// table's rows, the numbers of a temperature's two ends, and the comparison of two products of 64-bit numbers.
+mod divisor;
 mod fraction;
 mod product;
 mod range;
 mod refusal;
 mod units;
 
+pub use divisor::largest_divisor;
 pub use fraction::Fraction;
 pub use product::product_less;
 pub use range::End;

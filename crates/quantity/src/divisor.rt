@@ -1,0 +1,17 @@
+// The largest common divisor of two numbers, for the lowest terms of a fraction (document 02, request 4).
+ghost use mathlib.Core.Path.{_≡_};
+ghost use Rattle.quantity.specs.Divisors.{largestDivisor};
+
+// Euclid's algorithm: the second number falls at each turn.
+pub fn largest_divisor(a: u64, b: u64) -> u64
+    ensures { λ r. ⌜ r ≡ largestDivisor a b ⌝ }
+{
+    let mut first = a;
+    let mut second = b;
+    while 0 < second {
+        let rest = first % second;
+        first = second;
+        second = rest;
+    }
+    first
+}
