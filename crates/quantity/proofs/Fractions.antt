@@ -2,14 +2,14 @@
 -- Assumes nothing.
 use mathlib.Core.Path.{_≡_, refl, ap}
 use mathlib.Core.Bool.{Bool, true, false, cond}
-use Prim.Native.Nat.{ℕ, _*_, _≤_}
-use native.Mathlib.Nat.{le-refl, mul-pos, mul-le-mul-right, le-of-mul-le-mul-right}
+use Prim.Native.Nat.{ℕ, _*_, _≤_, _<_}
+use native.Mathlib.Nat.{le-refl, pos-of-ne-zero, mul-pos, mul-le-mul-right, le-of-mul-le-mul-right}
 use native.Mathlib.Omega.{arith}
 use borrow.Author.Tests.{leb-true}
 use Rattle.quantity.specs.Fractions.{_over_, whole, IsFraction, plus, times, AtMost, isAtMost, smaller, Represents}
 use Rattle.quantity.specs.declared.fraction.Fraction.{Fraction}
 
--- a sum, a product and the smaller of fractions are fractions
+-- a sum and a product of fractions are fractions
 pub of-plus : (x y : Fraction) → IsFraction x → IsFraction y → IsFraction (plus x y)
 unfolding plus
 of-plus x y p q = mul-pos p q
@@ -18,13 +18,24 @@ pub of-times : (x y : Fraction) → IsFraction x → IsFraction y → IsFraction
 unfolding times
 of-times x y p q = mul-pos p q
 
-pub of-either : (b : Bool) (x y : Fraction) → IsFraction x → IsFraction y → IsFraction (cond b x y)
-of-either true x y p q = p
-of-either false x y p q = q
+-- what holds of both holds of either, and so of the smaller
+pub of-either : (P : Fraction → Type 0) (b : Bool) (x y : Fraction) → P x → P y → P (cond b x y)
+of-either P true x y p q = p
+of-either P false x y p q = q
 
-pub of-smaller : (x y : Fraction) → IsFraction x → IsFraction y → IsFraction (smaller x y)
+pub of-smaller : (P : Fraction → Type 0) (x y : Fraction) → P x → P y → P (smaller x y)
 unfolding smaller
-of-smaller x y p q = of-either (isAtMost x y) x y p q
+of-smaller P x y p q = of-either P (isAtMost x y) x y p q
+
+-- a sum with a number above zero is above zero
+pub above-zero : (x y : Fraction) → 0 < x .numerator → IsFraction y → 0 < plus x y .numerator
+unfolding plus
+above-zero x y p q = omega (arith, mul-pos p q)
+
+-- and so is what equals a number above zero
+pub above-zero-too : (r x : Fraction) → Represents r x → 0 < x .numerator → 0 < r .numerator
+above-zero-too r x h p =
+    pos-of-ne-zero (λ (e : r .numerator ≡ 0). omega (arith, mul-pos p (h .is-fraction), h .same, ap (λ (y : ℕ). y * x .denominator) e))
 
 -- the order
 pub transitive : (x y z : Fraction) → IsFraction y → AtMost x y → AtMost y z → AtMost x z
@@ -58,6 +69,6 @@ pub twice : (x : Fraction) → AtMost x (times (whole 2) x)
 unfolding times
 twice x = omega arith
 
-pub doubled : (r x : Fraction) → Represents r x → Represents (2 * r .numerator over r .denominator) (times (whole 2) x)
+pub doubled : (r x : Fraction) → Represents r x → Represents (times (whole 2) r) (times (whole 2) x)
 unfolding times
-doubled r x h = record { is-fraction = h .is-fraction; same = omega (arith, ap (λ (y : ℕ). 2 * y) (h .same)) }
+doubled r x h = record { is-fraction = omega (arith, h .is-fraction); same = omega (arith, ap (λ (y : ℕ). 2 * y) (h .same)) }

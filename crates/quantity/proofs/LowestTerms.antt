@@ -88,10 +88,11 @@ reduced-is-lowest x p k s t =
 
 pub reduced-exactly : ReducedExactly
 reduced-exactly r x p = (
-    λ e. rw e (reduced-represents x p, reduced-is-lowest x p),
-    λ h.
-    let m = reduced-represents x p in
-    one-pair r (reduced x) (h .0 .is-fraction) (m .is-fraction) (h .1) (reduced-is-lowest x p) (same-as r x (reduced x) p (h .0 .same) (m .same)))
+  λ e. rw e (reduced-represents x p, reduced-is-lowest x p),
+  λ h.
+      let m = reduced-represents x p in
+      one-pair r (reduced x) (h .0 .is-fraction) (m .is-fraction) (h .1) (reduced-is-lowest x p) (same-as r x (reduced x) p (h .0 .same) (m .same)),
+)
 
 pub same-reduced : SameReduced
 same-reduced x y p q e =

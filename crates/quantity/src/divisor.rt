@@ -3,7 +3,7 @@ ghost use mathlib.Core.Path.{_≡_};
 ghost use Rattle.quantity.specs.Divisors.{largestDivisor};
 
 // Euclid's algorithm: the second number falls at each turn.
-pub fn largest_divisor(a: u64, b: u64) -> u64
+pub(crate) fn largest_divisor(a: u64, b: u64) -> u64
     ensures { λ r. ⌜ r ≡ largestDivisor a b ⌝ }
 {
     let mut first = a;

@@ -7,7 +7,6 @@ mod range;
 mod refusal;
 mod units;
 
-pub use divisor::largest_divisor;
 pub use fraction::Fraction;
 pub use product::product_less;
 pub use range::End;

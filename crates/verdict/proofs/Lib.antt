@@ -1,6 +1,8 @@
 -- Laws that this crate's proofs cite, and those of the crates above it.
+pub mod Certificate
 pub mod ClassFigures
 pub mod Classes
+pub mod Comparisons
 pub mod Edges
 pub mod Mirrored
 pub mod Passing

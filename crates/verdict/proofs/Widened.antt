@@ -1,28 +1,20 @@
 -- A wider limit never turns a pass into a fail.
 -- Assumes nothing.
-use mathlib.Core.Path.{_≡_, refl, sym, _∙_}
-use mathlib.Core.Bool.{Bool, true, false}
+use mathlib.Core.Path.{_≡_, sym, _∙_}
+use mathlib.Core.Bool.{true, false}
 use Prim.Native.Nat.{ℕ}
 use Rattle.quantity.specs.Refusals.{outside, firstOf, orRow}
-use Rattle.quantity.specs.declared.refusal.Outcome.{Outcome}
-use Rattle.quantity.specs.declared.refusal.Outcome.the-variants.{Accepted, Refused as RowRefused}
+use Rattle.quantity.specs.declared.refusal.Outcome.the-variants.{Accepted}
 use Rattle.quantity.proofs.Fractions.{twice}
 use Rattle.verdict.specs.Limit.{figuresOf, calculatorLimit, pairLimit, flowSensorSum, flowSensorLimit, completeLimit, partLimit, limitOf}
 use Rattle.verdict.specs.Rows.{valueOutside, verdictRows, Admitted}
 use Rattle.verdict.specs.Theorems.{Widened, atStage, InService}
-use Rattle.verdict.specs.Verdict.{passes, answer, refusedOr, verdictOf}
+use Rattle.verdict.specs.Verdict.{passes, refusedOr, verdictOf}
 use Rattle.verdict.specs.declared.point.TestPoint.{TestPoint}
 use Rattle.verdict.specs.declared.bench.Verdict.the-variants.{Pass}
 use Rattle.verdict.proofs.Passing.{wider}
 use Rattle.verdict.proofs.Positive.{limit-is-fraction}
-use Rattle.verdict.proofs.Verdicts.{last-row, both}
-
--- a pass comes only where no row refuses and the comparison holds
-only : (o : Outcome) (b : Bool) → refusedOr o (answer b) ≡ Pass → (o ≡ Accepted) × (b ≡ true)
-unfolding refusedOr
-only (RowRefused n) b e = (cc, cc)
-only Accepted true e = (refl, refl)
-only Accepted false e = (refl, cc)
+use Rattle.verdict.proofs.Verdicts.{last-row, both, only}
 
 -- what a pass tells, and what makes one
 record Passed (p : TestPoint) (i x : ℕ) : Type 0 where

@@ -2,5 +2,6 @@
 pub mod Limit
 pub mod Rows
 pub mod Verdict
+pub mod Certificate
 pub mod Theorems
 pub mod inside

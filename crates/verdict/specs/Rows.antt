@@ -1,5 +1,6 @@
 -- Document 01's refusals, row "Verdict": "50 part; 51 class not 1..3, whatever the part; 52 stage; 53 Δmin not 1, 2, 3 or D
--- outside 100×Δmin..18000; 54 qp or q outside 1..10^9; 55 X zero, or I or X above 10^12−1".
+-- outside 100×Δmin..18000; 54 qp or q outside 1..10^9; 55 X zero, or I or X above 10^12−1". Document 02, request 4, of the two operations that the
+-- verdict calls: "the first gives 50 to 54, the second 55, also for a zero denominator".
 use Prim.Native.Nat.{ℕ, _-_, _^_}
 use mathlib.Core.Path.{_≡_}
 use mathlib.Core.Bool.{Bool, _||_}
@@ -7,6 +8,7 @@ use mathlib.Core.List.{List, [], _∷_, _++_}
 use lib.Dec.{ltb, eqb}
 use Rattle.quantity.specs.Units.{largestKelvins, wholeKelvins, isSmaller}
 use Rattle.quantity.specs.Refusals.{Row, row, outside, firstOf}
+use Rattle.quantity.specs.declared.fraction.Fraction.{Fraction}
 use Rattle.quantity.specs.declared.refusal.Outcome.the-variants.{Accepted}
 use Rattle.quantity.specs.declared.units.Difference.{Difference}
 use Rattle.verdict.specs.declared.point.TestPoint.{TestPoint}
@@ -42,6 +44,13 @@ pointRows p =
 -- what is asked of the indicated value i and of the conventional true value x
 abbrev pub valueRows : ℕ → ℕ → List Row
 valueRows i x = row 55 (valueOutside i x) ∷ []
+
+-- what is asked of them where they are compared with a limit: 55 "also for a zero denominator"
+unfoldable pub incomparable : Fraction → ℕ → ℕ → Bool
+incomparable l i x = valueOutside i x || eqb (l .denominator) 0
+
+abbrev pub comparisonRows : Fraction → ℕ → ℕ → List Row
+comparisonRows l i x = row 55 (incomparable l i x) ∷ []
 
 -- all six, in the table's order
 abbrev pub verdictRows : TestPoint → ℕ → ℕ → List Row

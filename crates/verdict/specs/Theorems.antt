@@ -1,15 +1,21 @@
 -- What is proved of the verdict, statement by statement. Each is proved in proofs/ under its name in small letters.
-use Prim.Native.Nat.{ℕ, _+_, _*_, _≤_}
+use Prim.Native.Nat.{ℕ, _+_, _*_, _≤_, _<_}
 use mathlib.Core.Path.{_≡_}
-use Rattle.quantity.specs.Fractions.{whole, IsFraction, plus, times, AtMost, Represents}
+use mathlib.Core.Bool.{false}
+use mathlib.Core.Logic.{_↔_}
+use Rattle.quantity.specs.Divisors.{InLowestTerms}
+use Rattle.quantity.specs.Fractions.{whole, IsFraction, plus, times, AtMost, Same, Represents}
 use Rattle.quantity.specs.declared.fraction.Fraction.{Fraction}
+use Rattle.verdict.specs.Certificate.{errorLimitOf, comparisonOf}
 use Rattle.verdict.specs.Limit.{hundredths, figuresOf, differenceRatio, flowRatio, flowSensorSum, completeLimit, limitOf}
-use Rattle.verdict.specs.Rows.{largestValue, Admitted}
-use Rattle.verdict.specs.Verdict.{passes, verdictOf}
+use Rattle.verdict.specs.Rows.{largestValue, Admitted, incomparable}
+use Rattle.verdict.specs.Verdict.{absoluteError, passes, verdictOf}
 use Rattle.verdict.specs.declared.class.Figures.{Figures}
 use Rattle.verdict.specs.declared.point.TestPoint.{TestPoint}
 use Rattle.verdict.specs.declared.bench.Verdict.{Verdict}
-use Rattle.verdict.specs.declared.bench.Verdict.the-variants.{Pass, Fail}
+use Rattle.verdict.specs.declared.bench.Verdict.the-variants.{Pass, Fail, Refused}
+use Rattle.verdict.specs.declared.limit.ErrorLimit.{ErrorLimit}
+use Rattle.verdict.specs.declared.limit.ErrorLimit.the-variants.{Percent, Refused as LimitRefused}
 
 -- where no row refuses the test point, its limit and a complete instrument's are fractions, their lower numbers above zero
 abbrev pub LimitIsFraction : Type 0
@@ -45,6 +51,40 @@ InService = (p : TestPoint) (i x : ℕ) → verdictOf (atStage 1 p) i x ≡ Pass
 -- equal limits are passed alike, so a verdict does not depend on how its limit is written as a fraction
 abbrev pub EqualLimits : Type 0
 EqualLimits = (l m : Fraction) (i x : ℕ) → Represents l m → IsFraction m → passes l i x ≡ passes m i x
+
+-- Document 02, request 4. The limit's answer is a pair of numbers exactly where no row refuses the test point, and then it is the limit, in
+-- lowest terms. There is only one such pair.
+abbrev pub LimitExactly : Type 0
+LimitExactly =
+    (p : TestPoint) (r : Fraction) → (errorLimitOf p ≡ Percent r) ↔ (Admitted p × Represents r (limitOf (figuresOf (p .class)) p) × InLowestTerms r)
+
+-- a limit of whole percent has the denominator 1
+abbrev pub WholePercent : Type 0
+WholePercent =
+    (p : TestPoint) (n : ℕ) → Admitted p → Same (limitOf (figuresOf (p .class)) p) (whole n) → errorLimitOf p ≡ Percent (whole n)
+
+-- no limit is zero percent
+abbrev pub LimitAboveZero : Type 0
+LimitAboveZero = (p : TestPoint) (r : Fraction) → errorLimitOf p ≡ Percent r → 0 < r .numerator
+
+-- the comparison with any two numbers passes exactly where 55 is not given and |I−X|×100×denominator ≤ numerator×X
+abbrev pub ComparedExactly : Type 0
+ComparedExactly =
+    (l : Fraction) (i x : ℕ) →
+    (comparisonOf l i x ≡ Pass) ↔ ((incomparable l i x ≡ false) × (absoluteError i x * 100 * l .denominator ≤ l .numerator * x))
+
+-- equal limits are compared alike, reduced or not
+abbrev pub EqualComparisons : Type 0
+EqualComparisons = (l m : Fraction) (i x : ℕ) → IsFraction l → IsFraction m → Same l m → comparisonOf l i x ≡ comparisonOf m i x
+
+-- what the two operations answer together: the comparison with the limit's pair, or the limit's refusal
+abbrev pub comparedWith : ErrorLimit → ℕ → ℕ → Verdict
+comparedWith (Percent l) i x = comparisonOf l i x
+comparedWith (LimitRefused n) i x = Refused n
+
+-- "A pass from the pair means what a pass meant before, refusals 50 to 55 included": it is the verdict, whatever the answer
+abbrev pub FromPair : Type 0
+FromPair = (p : TestPoint) (i x : ℕ) → comparedWith (errorLimitOf p) i x ≡ verdictOf p i x
 
 -- values as far above as below the conventional true value, I and 2X−I, get the same verdict; 55 may refuse one of them alone, so both are
 -- in its range

@@ -1,13 +1,27 @@
-// The maximum permissible error of a test point, as an exact fraction of percent.
+// The maximum permissible error of a test point: its limit as an exact fraction of percent, in lowest terms as the certificate prints it
+// (document 01, "Error verdict"; document 02, request 4).
 use crate::class::Figures;
+use crate::class::figures_of_class;
 use crate::point::TestPoint;
 use quantity::Fraction;
+use quantity::Outcome;
 ghost use mathlib.Core.Path.{_≡_};
 ghost use Prim.Native.Nat.{_+_, _*_, _^_, _≤_, min};
-ghost use Rattle.quantity.specs.Fractions.{Represents};
-ghost use Rattle.verdict.specs.Limit.{partLimit, limitOf};
+ghost use mathlib.Core.Bool.{cond};
+ghost use lib.Dec.{eqb};
+ghost use Rattle.quantity.specs.Fractions.{Represents, times, whole};
+ghost use Rattle.verdict.specs.Certificate.{errorLimitOf};
+ghost use Rattle.verdict.specs.Limit.{partLimit};
 ghost use Rattle.verdict.specs.inside.Fit.{FiguresFit};
 ghost use Rattle.verdict.specs.Rows.{largestFlow, Admitted};
+
+// The answer on a test point's limit.
+pub enum ErrorLimit {
+    // in percent and in lowest terms
+    Percent(Fraction),
+    // the refusal's number
+    Refused(u64),
+}
 
 // The flow sensor's limit at verification, times 100 × q: what the cap leaves of constant + factor × qp/q.
 fn flow_sensor_part(figures: Figures, qp: u64, q: u64) -> u64
@@ -52,17 +66,31 @@ fn part_limit(figures: Figures, point: TestPoint) -> Fraction
     }
 }
 
-// The limit at the point's stage: in service, twice that of verification.
-pub(crate) fn limit(figures: Figures, point: TestPoint) -> Fraction
-    requires { ⌜ (FiguresFit figures) × (Admitted point) ⌝ }
-    ensures { λ r. ⌜ Represents r (limitOf figures point) ⌝ }
+// The limit at a stage, from the one at verification: in service, twice as much.
+fn at_stage(at_verification: Fraction, stage: u64) -> Fraction
+    requires { ⌜ «at_verification» .numerator ≤ 10 ^ 18 ⌝ }
+    ensures { λ r. ⌜ r ≡ cond (eqb stage 1) «at_verification» (times (whole 2) «at_verification») ⌝ }
 {
-    let at_verification = part_limit(figures, point);
-    if point.stage == 1 {
+    if stage == 1 {
         return at_verification;
     }
     Fraction {
         numerator: 2 * at_verification.numerator,
         denominator: at_verification.denominator,
+    }
+}
+
+// The limit of a test point, or the first of the refusals 50 to 54.
+pub fn error_limit(point: TestPoint) -> ErrorLimit
+    ensures { λ r. ⌜ r ≡ errorLimitOf point ⌝ }
+{
+    let refusal = point.refusal();
+    match refusal {
+        Outcome::Refused(number) => ErrorLimit::Refused(number),
+        Outcome::Accepted => {
+            let at_verification = part_limit(figures_of_class(point.class), point);
+            let limit = at_stage(at_verification, point.stage);
+            ErrorLimit::Percent(limit.reduced())
+        }
     }
 }

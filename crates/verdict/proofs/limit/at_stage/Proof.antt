@@ -1,0 +1,21 @@
+-- `verdict::limit::at_stage` meets its contract: by the stage.
+-- Assumes nothing.
+use borrow.Author.Needs.{needs}
+use borrow.Author.Tests.{ne-eqb}
+use native.Mathlib.Nat.{one-mul}
+use Rattle.quantity.specs.Fractions.{times}
+use Rattle.verdict.proofs.limit.at_stage.Statement.{statement}
+use Rattle.verdict.proofs.limit.at_stage.Tie as tie
+
+returns : tie.Need-returns
+returns c = simp (c .if1 .taken)
+
+mul-t4 : tie.Need-mul-t4
+mul-t4 c = search needs
+
+returns-2 : tie.Need-returns-2
+unfolding times
+returns-2 c = simp (ne-eqb _ _ (c .before .if1 .left), one-mul)
+
+pub at-stage-spec : {M : Type 1} → statement M
+at-stage-spec = tie.close (tie.spec returns mul-t4 returns-2)
