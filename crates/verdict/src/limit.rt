@@ -74,8 +74,9 @@ fn at_stage(at_verification: Fraction, stage: u64) -> Fraction
     if stage == 1 {
         return at_verification;
     }
+    let twice = 2 * at_verification.numerator;
     Fraction {
-        numerator: 2 * at_verification.numerator,
+        numerator: twice,
         denominator: at_verification.denominator,
     }
 }
@@ -90,7 +91,8 @@ pub fn error_limit(point: TestPoint) -> ErrorLimit
         Outcome::Accepted => {
             let at_verification = part_limit(figures_of_class(point.class), point);
             let limit = at_stage(at_verification, point.stage);
-            ErrorLimit::Percent(limit.reduced())
+            let lowest = limit.reduced();
+            ErrorLimit::Percent(lowest)
         }
     }
 }

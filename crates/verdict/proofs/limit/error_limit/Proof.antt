@@ -1,13 +1,12 @@
 -- `verdict::limit::error_limit` meets its contract: by the rows' outcome, and by a fraction that equals the limit.
 -- Assumes nothing.
 use borrow.Author.Needs.{needs}
-use mathlib.Core.Path.{_∙_, subst, sym}
-use Rattle.quantity.specs.Divisors.{reduced}
+use mathlib.Core.Path.{_∙_, sym, ap}
 use Rattle.quantity.specs.Fractions.{Represents}
-use Rattle.quantity.specs.declared.fraction.Fraction.{Fraction}
 use Rattle.verdict.specs.Certificate.{refusedOrLimit, errorLimitOf}
 use Rattle.verdict.specs.Limit.{figuresOf, limitOf}
 use Rattle.verdict.specs.Rows.{Admitted}
+use Rattle.verdict.specs.declared.limit.ErrorLimit.the-variants.{Percent}
 use Rattle.verdict.proofs.Certificate.{at-stage, printed}
 use Rattle.verdict.proofs.ClassFigures.{figures-fit}
 use Rattle.verdict.proofs.Ranges.{ranges}
@@ -57,7 +56,8 @@ returns c =
     simp (sym (t .before .before .refusal .ensures) ∙ t .refusal2 .given .1)
 
 returns-2 : tie.Need-returns-2
-returns-2 c = rw (c .reduced .ensures) (printed _ _ (admitted (c .before .before .before .before)) (limit (c .before)))
+returns-2 c =
+    ap Percent (c .reduced .ensures) ∙ printed _ _ (admitted (c .before .before .before .before)) (limit (c .before))
 
 pub error-limit-spec : {M : Type 1} → statement M
 error-limit-spec =
