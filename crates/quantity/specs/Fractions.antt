@@ -1,6 +1,6 @@
 -- Exact fractions, document 01, "Meter's step": "It is two whole numbers, the lower one above zero: fractions are added over the product of
--- their lower numbers and compared by cross products." No fraction is reduced. The numbers are of any size here; the struct `Fraction` of
--- the code holds those of 64 bits.
+-- their lower numbers and compared by cross products." None of these reduces a fraction: `reduced` of specs/Divisors.antt does. The numbers
+-- are of any size here; the struct `Fraction` of the code holds those of 64 bits.
 use mathlib.Core.Path.{_≡_}
 use Prim.Native.Nat.{ℕ, _+_, _*_, _/_, _≤_, _<_}
 use mathlib.Core.Bool.{Bool, cond}
