@@ -1,9 +1,9 @@
 -- The largest common divisor: it divides both numbers, every number that does divides it, and Euclid's step keeps it.
 -- Assumes nothing.
-use mathlib.Core.Path.{_≡_, refl, sym, _∙_, subst}
+use mathlib.Core.Path.{_≡_, refl, subst}
 use mathlib.Core.Bool.{Bool, true, false}
-use Prim.Native.Nat.{ℕ, zero, suc, _*_, _%_, _∣_, _≤_, _<_, max}
-use native.Mathlib.Nat.{le-refl, le-antisymm, mod-lt, mod-eq-zero-of-dvd, dvd-of-mod-eq-zero, dvd-mod-iff, dvd-refl, dvd-zero, dvd-trans, dvd-antisymm, le-of-dvd, pos-of-dvd-of-pos, eq-zero-of-zero-dvd}
+use Prim.Native.Nat.{ℕ, zero, suc, _%_, _∣_, _≤_, _<_, max}
+use native.Mathlib.Nat.{le-refl, le-antisymm, mod-lt, mod-eq-zero-of-dvd, dvd-of-mod-eq-zero, dvd-mod-iff, dvd-refl, dvd-zero, le-of-dvd, pos-of-dvd-of-pos, eq-zero-of-zero-dvd}
 use native.Mathlib.Omega.{arith}
 use lib.Dec.{eqb}
 use borrow.Author.Tests.{eqb-true, eqb-false, eq-eqb}

@@ -6,7 +6,7 @@ use Prim.Native.Nat.{ℕ, _*_, _≤_, _<_}
 use native.Mathlib.Nat.{le-refl, pos-of-ne-zero, mul-pos, mul-le-mul-right, le-of-mul-le-mul-right}
 use native.Mathlib.Omega.{arith}
 use borrow.Author.Tests.{leb-true}
-use Rattle.quantity.specs.Fractions.{_over_, whole, IsFraction, plus, times, AtMost, isAtMost, smaller, Represents}
+use Rattle.quantity.specs.Fractions.{whole, IsFraction, plus, times, AtMost, isAtMost, smaller, Represents}
 use Rattle.quantity.specs.declared.fraction.Fraction.{Fraction}
 
 -- a sum and a product of fractions are fractions

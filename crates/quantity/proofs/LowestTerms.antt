@@ -1,11 +1,11 @@
 -- Lowest terms: reduced, a fraction is in them, and no other pair of numbers in lowest terms is the same fraction.
 -- Assumes nothing.
-use mathlib.Core.Path.{_≡_, refl, sym, _∙_, ap, subst}
+use mathlib.Core.Path.{_≡_, sym, _∙_, ap, subst}
 use Prim.Native.Nat.{ℕ, _*_, _/_, _∣_, _<_}
-use native.Mathlib.Nat.{mul-one, one-mul, dvd-refl, dvd-trans, dvd-antisymm, dvd-mul-left, dvd-mul-right, mul-dvd-mul-left, mul-dvd-mul-right, dvd-of-mul-dvd-mul-left, dvd-of-mul-dvd-mul-right, mul-div-cancel', div-mul-cancel, pos-of-dvd-of-pos, eq-one-of-dvd-one, eq-of-mul-eq-mul-right, eq-zero-of-zero-dvd, div-zero}
+use native.Mathlib.Nat.{mul-one, one-mul, dvd-trans, dvd-antisymm, dvd-mul-left, dvd-mul-right, mul-dvd-mul-left, mul-dvd-mul-right, dvd-of-mul-dvd-mul-left, dvd-of-mul-dvd-mul-right, mul-div-cancel', div-mul-cancel, pos-of-dvd-of-pos, eq-one-of-dvd-one, eq-of-mul-eq-mul-right, eq-zero-of-zero-dvd, div-zero}
 use native.Mathlib.Omega.{arith}
 use lib.Dec.{lit<}
-use Rattle.quantity.specs.Divisors.{largestDivisor, IsLargestDivisor, InLowestTerms, reduced}
+use Rattle.quantity.specs.Divisors.{largestDivisor, InLowestTerms, reduced}
 use Rattle.quantity.specs.Fractions.{_over_, whole, IsFraction, Same, Represents}
 use Rattle.quantity.specs.Theorems.{ReducedExactly, SameReduced, WholeReduced}
 use Rattle.quantity.specs.declared.fraction.Fraction.{Fraction}
@@ -34,13 +34,13 @@ multiplier x k low h p =
 
 -- two pairs in lowest terms that are the same fraction are the same pair
 one-pair : (x y : Fraction) → IsFraction x → IsFraction y → InLowestTerms x → InLowestTerms y → Same x y → x ≡ y
-one-pair x y p q low mow e =
+one-pair x y p q first second e =
     let n = x .numerator in
     let d = x .denominator in
     let m = y .numerator in
     let c = y .denominator in
-    let there : d ∣ c = multiplier x c low q (subst (λ (z : ℕ). d ∣ z) (omega (arith, e)) (dvd-mul-left d m)) in
-    let back : c ∣ d = multiplier y d mow p (subst (λ (z : ℕ). c ∣ z) (omega (arith, e)) (dvd-mul-left c n)) in
+    let there : d ∣ c = multiplier x c first q (subst (λ (z : ℕ). d ∣ z) (omega (arith, e)) (dvd-mul-left d m)) in
+    let back : c ∣ d = multiplier y d second p (subst (λ (z : ℕ). c ∣ z) (omega (arith, e)) (dvd-mul-left c n)) in
     let lower : d ≡ c = dvd-antisymm there back in
     let upper : n ≡ m = eq-of-mul-eq-mul-right c q n m (e ∙ ap (λ (z : ℕ). m * z) lower) in
     ap (λ (z : ℕ). z over d) upper ∙ ap (λ (z : ℕ). m over z) lower
@@ -52,14 +52,17 @@ same-as x y z p e f =
     (omega (arith, ap (λ (w : ℕ). w * z .denominator) e, ap (λ (w : ℕ). w * x .denominator) f))
 
 -- two zeros stay as they are
+divided-by-zero : (n g : ℕ) → g ≡ 0 → g ∣ n → n ≡ n / g
+divided-by-zero n g e h =
+    eq-zero-of-zero-dvd (subst (λ (d : ℕ). d ∣ n) e h) ∙ sym (div-zero n) ∙ ap (λ (d : ℕ). n / d) (sym e)
+
 pub zeros-stay : (x : Fraction) → largestDivisor (x .numerator) (x .denominator) ≡ 0 → x ≡ reduced x
 unfolding reduced
 zeros-stay x e =
+    let g = largestDivisor (x .numerator) (x .denominator) in
     let m = is-largest (x .numerator) (x .denominator) in
-    let n = eq-zero-of-zero-dvd (subst (λ (g : ℕ). g ∣ x .numerator) e (m .first)) in
-    let d = eq-zero-of-zero-dvd (subst (λ (g : ℕ). g ∣ x .denominator) e (m .second)) in
-    ap (λ (z : ℕ). z over x .denominator) (n ∙ sym (div-zero _) ∙ ap (λ (g : ℕ). x .numerator / g) (sym e))
-    ∙ ap (λ (z : ℕ). (x .numerator / largestDivisor (x .numerator) (x .denominator)) over z) (d ∙ sym (div-zero _) ∙ ap (λ (g : ℕ). x .denominator / g) (sym e))
+    ap (λ (n : ℕ). n over x .denominator) (divided-by-zero (x .numerator) g e (m .first))
+    ∙ ap (λ (d : ℕ). (x .numerator / g) over d) (divided-by-zero (x .denominator) g e (m .second))
 
 -- reduced, a fraction is the same ..
 pub reduced-represents : (x : Fraction) → IsFraction x → Represents (reduced x) x
@@ -67,12 +70,13 @@ unfolding reduced
 reduced-represents x p =
     let n = x .numerator in
     let d = x .denominator in
+    let g = largestDivisor n d in
     let m = is-largest n d in
-    let a = div-mul-cancel (largestDivisor n d) (m .first) in
-    let b = div-mul-cancel (largestDivisor n d) (m .second) in
+    let a = div-mul-cancel g (m .first) in
+    let b = div-mul-cancel g (m .second) in
     record {
-      is-fraction = pos-of-dvd-of-pos (subst (λ (z : ℕ). d / largestDivisor n d ∣ z) b (dvd-mul-right (d / largestDivisor n d) (largestDivisor n d))) p;
-      same = ap (λ (z : ℕ). n / largestDivisor n d * z) (sym b) ∙ omega arith ∙ ap (λ (z : ℕ). z * (d / largestDivisor n d)) a;
+      is-fraction = pos-of-dvd-of-pos (subst (λ (z : ℕ). d / g ∣ z) b (dvd-mul-right (d / g) g)) p;
+      same = ap (λ (z : ℕ). n / g * z) (sym b) ∙ omega arith ∙ ap (λ (z : ℕ). z * (d / g)) a;
     }
 
 -- .. in lowest terms
