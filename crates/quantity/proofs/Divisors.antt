@@ -8,7 +8,7 @@ use native.Mathlib.Omega.{arith}
 use lib.Dec.{eqb}
 use borrow.Author.Tests.{eqb-true, eqb-false, eq-eqb}
 use Rattle.quantity.specs.Largest.{largest}
-use Rattle.quantity.specs.Divisors.{dividesBoth, largestDivisor, IsLargestDivisor}
+use Rattle.quantity.specs.Divisors.{dividesBoth, largestCommonDivisor, IsLargestCommonDivisor}
 use Rattle.quantity.specs.Theorems.{DivisorExactly}
 use Rattle.quantity.proofs.Conditions.{both}
 use Rattle.quantity.proofs.Largest.{bounded, holds, at-least}
@@ -39,8 +39,8 @@ in-range a b k h p q = go (eqb a 0) refl
         (pos-of-dvd-of-pos p a-above, omega (arith, le-of-dvd a-above p))
 
 -- a number with the two sentences is the one that the search finds: none larger divides both, since it would divide a smaller one
-found : (g a b : ℕ) → IsLargestDivisor g a b → g ≡ largestDivisor a b
-unfolding largestDivisor
+found : (g a b : ℕ) → IsLargestCommonDivisor g a b → g ≡ largestCommonDivisor a b
+unfolding largestCommonDivisor
 found g a b h = go (eqb (max a b) 0) refl
   where
     go : (t : Bool) → eqb (max a b) 0 ≡ t → g ≡ largest (dividesBoth a b) (max a b)
@@ -58,22 +58,22 @@ found g a b h = go (eqb (max a b) 0) refl
         le-antisymm (at-least (dividesBoth a b) (max a b) g (g-in .1) t) (le-of-dvd (g-in .0) (h .every _ (d .0) (d .1)))
 
 -- Euclid's step
-stepped : (g a b : ℕ) → IsLargestDivisor g b (a % b) → IsLargestDivisor g a b
+stepped : (g a b : ℕ) → IsLargestCommonDivisor g b (a % b) → IsLargestCommonDivisor g a b
 stepped g a b h = record {
   first = dvd-mod-iff g {m = a} {n = b} (h .first) .0 (h .second);
   second = h .first;
   every = λ k p q. h .every k q (dvd-mod-iff k {m = a} {n = b} q .1 p);
 }
 
-of-zero : (a : ℕ) → IsLargestDivisor a a 0
+of-zero : (a : ℕ) → IsLargestCommonDivisor a a 0
 of-zero a = record { first = dvd-refl a; second = dvd-zero a; every = λ k p q. p }
 
 -- there is such a number: each step makes the second one smaller
-exists : (most a b : ℕ) → b ≤ most → (g : ℕ) × IsLargestDivisor g a b
+exists : (most a b : ℕ) → b ≤ most → (g : ℕ) × IsLargestCommonDivisor g a b
 exists zero a b h = let z : b ≡ 0 = omega arith in (a, rw z (of-zero a))
 exists (suc most) a b h = go (eqb b 0) refl (exists most b (a % b))
   where
-    go : (t : Bool) → eqb b 0 ≡ t → (a % b ≤ most → (g : ℕ) × IsLargestDivisor g b (a % b)) → (g : ℕ) × IsLargestDivisor g a b
+    go : (t : Bool) → eqb b 0 ≡ t → (a % b ≤ most → (g : ℕ) × IsLargestCommonDivisor g b (a % b)) → (g : ℕ) × IsLargestCommonDivisor g a b
     go true e f = let z = eqb-true b 0 e in (a, rw z (of-zero a))
     go false e f =
         let z = eqb-false b 0 e in
@@ -81,17 +81,17 @@ exists (suc most) a b h = go (eqb b 0) refl (exists most b (a % b))
         (rest .0, stepped (rest .0) a b (rest .1))
 
 pub divisor-exactly : DivisorExactly
-divisor-exactly g a b = (λ e. rw e (subst (λ (x : ℕ). IsLargestDivisor x a b) (found _ a b (some .1)) (some .1)), found g a b)
+divisor-exactly g a b = (λ e. rw e (subst (λ (x : ℕ). IsLargestCommonDivisor x a b) (found _ a b (some .1)) (some .1)), found g a b)
   where
-    some : (x : ℕ) × IsLargestDivisor x a b
+    some : (x : ℕ) × IsLargestCommonDivisor x a b
     some = exists b a b (le-refl b)
 
-pub is-largest : (a b : ℕ) → IsLargestDivisor (largestDivisor a b) a b
+pub is-largest : (a b : ℕ) → IsLargestCommonDivisor (largestCommonDivisor a b) a b
 is-largest a b = divisor-exactly _ a b .0 refl
 
 -- what the loop needs
-pub divisor-of-zero : (a : ℕ) → a ≡ largestDivisor a 0
+pub divisor-of-zero : (a : ℕ) → a ≡ largestCommonDivisor a 0
 divisor-of-zero a = found a a 0 (of-zero a)
 
-pub divisor-of-step : (a b : ℕ) → largestDivisor b (a % b) ≡ largestDivisor a b
+pub divisor-of-step : (a b : ℕ) → largestCommonDivisor b (a % b) ≡ largestCommonDivisor a b
 divisor-of-step a b = found _ a b (stepped _ a b (is-largest b (a % b)))

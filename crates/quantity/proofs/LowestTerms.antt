@@ -5,22 +5,22 @@ use Prim.Native.Nat.{ℕ, _*_, _/_, _∣_, _<_}
 use native.Mathlib.Nat.{mul-one, one-mul, dvd-trans, dvd-antisymm, dvd-mul-left, dvd-mul-right, mul-dvd-mul-left, mul-dvd-mul-right, dvd-of-mul-dvd-mul-left, dvd-of-mul-dvd-mul-right, mul-div-cancel', div-mul-cancel, pos-of-dvd-of-pos, eq-one-of-dvd-one, eq-of-mul-eq-mul-right, eq-zero-of-zero-dvd, div-zero}
 use native.Mathlib.Omega.{arith}
 use lib.Dec.{lit<}
-use Rattle.quantity.specs.Divisors.{largestDivisor, InLowestTerms, reduced}
+use Rattle.quantity.specs.Divisors.{largestCommonDivisor, InLowestTerms, reduced}
 use Rattle.quantity.specs.Fractions.{_over_, whole, IsFraction, Same, Represents}
 use Rattle.quantity.specs.Theorems.{ReducedExactly, SameReduced, WholeReduced}
 use Rattle.quantity.specs.declared.fraction.Fraction.{Fraction}
 use Rattle.quantity.proofs.Divisors.{is-largest}
 
 -- the largest common divisor of k-fold numbers divides k times that of the numbers
-of-multiples : (k a b : ℕ) → 0 < k → largestDivisor (k * a) (k * b) ∣ k * largestDivisor a b
+of-multiples : (k a b : ℕ) → 0 < k → largestCommonDivisor (k * a) (k * b) ∣ k * largestCommonDivisor a b
 of-multiples k a b h =
     let m = is-largest (k * a) (k * b) in
-    let g = largestDivisor (k * a) (k * b) in
+    let g = largestCommonDivisor (k * a) (k * b) in
     let q = g / k in
     let e : k * q ≡ g = mul-div-cancel' k (m .every k (dvd-mul-right k a) (dvd-mul-right k b)) in
     let p = dvd-of-mul-dvd-mul-left q h (subst (λ (x : ℕ). x ∣ k * a) (sym e) (m .first)) in
     let r = dvd-of-mul-dvd-mul-left q h (subst (λ (x : ℕ). x ∣ k * b) (sym e) (m .second)) in
-    subst (λ (x : ℕ). x ∣ k * largestDivisor a b) e (mul-dvd-mul-left q k (is-largest a b .every q p r))
+    subst (λ (x : ℕ). x ∣ k * largestCommonDivisor a b) e (mul-dvd-mul-left q k (is-largest a b .every q p r))
 
 -- of a fraction in lowest terms: where the denominator divides a multiple of the numerator, it divides the multiplier
 multiplier : (x : Fraction) (k : ℕ) → InLowestTerms x → 0 < k → x .denominator ∣ k * x .numerator → x .denominator ∣ k
@@ -56,10 +56,10 @@ divided-by-zero : (n g : ℕ) → g ≡ 0 → g ∣ n → n ≡ n / g
 divided-by-zero n g e h =
     eq-zero-of-zero-dvd (subst (λ (d : ℕ). d ∣ n) e h) ∙ sym (div-zero n) ∙ ap (λ (d : ℕ). n / d) (sym e)
 
-pub zeros-stay : (x : Fraction) → largestDivisor (x .numerator) (x .denominator) ≡ 0 → x ≡ reduced x
+pub zeros-stay : (x : Fraction) → largestCommonDivisor (x .numerator) (x .denominator) ≡ 0 → x ≡ reduced x
 unfolding reduced
 zeros-stay x e =
-    let g = largestDivisor (x .numerator) (x .denominator) in
+    let g = largestCommonDivisor (x .numerator) (x .denominator) in
     let m = is-largest (x .numerator) (x .denominator) in
     ap (λ (n : ℕ). n over x .denominator) (divided-by-zero (x .numerator) g e (m .first))
     ∙ ap (λ (d : ℕ). (x .numerator / g) over d) (divided-by-zero (x .denominator) g e (m .second))
@@ -70,7 +70,7 @@ unfolding reduced
 reduced-represents x p =
     let n = x .numerator in
     let d = x .denominator in
-    let g = largestDivisor n d in
+    let g = largestCommonDivisor n d in
     let m = is-largest n d in
     let a = div-mul-cancel g (m .first) in
     let b = div-mul-cancel g (m .second) in
@@ -84,7 +84,7 @@ pub reduced-is-lowest : (x : Fraction) → IsFraction x → InLowestTerms (reduc
 unfolding reduced
 reduced-is-lowest x p k s t =
     let m = is-largest (x .numerator) (x .denominator) in
-    let g = largestDivisor (x .numerator) (x .denominator) in
+    let g = largestCommonDivisor (x .numerator) (x .denominator) in
     let a = subst (λ (z : ℕ). k * g ∣ z) (div-mul-cancel g (m .first)) (mul-dvd-mul-right k s g) in
     let b = subst (λ (z : ℕ). k * g ∣ z) (div-mul-cancel g (m .second)) (mul-dvd-mul-right k t g) in
     let above = pos-of-dvd-of-pos (m .second) p in

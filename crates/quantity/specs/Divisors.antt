@@ -13,12 +13,12 @@ unfoldable pub dividesBoth : ℕ → ℕ → ℕ → Bool
 dividesBoth a b k = eqb (a % k) 0 && eqb (b % k) 0
 
 -- the largest number that does; 0 for two zeros, which every number divides
-unfoldable pub largestDivisor : ℕ → ℕ → ℕ
-largestDivisor a b = largest (dividesBoth a b) (max a b)
+unfoldable pub largestCommonDivisor : ℕ → ℕ → ℕ
+largestCommonDivisor a b = largest (dividesBoth a b) (max a b)
 
 -- its two sentences: it divides both, and every number that divides both divides it. `DivisorExactly` of specs/Theorems.antt says that
--- `largestDivisor` and no other number has them.
-pub record IsLargestDivisor (g a b : ℕ) : Type 0 where
+-- `largestCommonDivisor` and no other number has them.
+pub record IsLargestCommonDivisor (g a b : ℕ) : Type 0 where
   pub first : g ∣ a
   pub second : g ∣ b
   pub every : (k : ℕ) → k ∣ a → k ∣ b → k ∣ g
@@ -31,5 +31,5 @@ InLowestTerms x = (k : ℕ) → k ∣ x .numerator → k ∣ x .denominator → 
 -- it has no other.
 unfoldable pub reduced : Fraction → Fraction
 reduced x =
-    let g = largestDivisor (x .numerator) (x .denominator) in
+    let g = largestCommonDivisor (x .numerator) (x .denominator) in
     (x .numerator / g) over (x .denominator / g)

@@ -1,5 +1,5 @@
--- The largest number for which a test holds: of the temperatures that a reading has reached (document 01, "Temperature"), and of the numbers
--- that divide two others (document 02, request 4).
+-- The largest number for which a test holds: document 01, "Temperature", "the largest t with n×W(t) ≤ r×10000000000"; and of the common
+-- divisors of document 02, request 4.
 use Prim.Native.Nat.{ℕ, zero, suc}
 use mathlib.Core.Bool.{Bool, true, false}
 

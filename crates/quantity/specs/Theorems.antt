@@ -4,7 +4,7 @@ use mathlib.Core.Path.{_≡_}
 use mathlib.Core.List.{List, [], _∷_}
 use mathlib.Core.Logic.{_↔_}
 use Prim.Native.Nat.{ℕ}
-use Rattle.quantity.specs.Divisors.{largestDivisor, IsLargestDivisor, InLowestTerms, reduced}
+use Rattle.quantity.specs.Divisors.{largestCommonDivisor, IsLargestCommonDivisor, InLowestTerms, reduced}
 use Rattle.quantity.specs.Fractions.{whole, IsFraction, Same, Represents}
 use Rattle.quantity.specs.Range.{endNumber}
 use Rattle.quantity.specs.Refusals.{Row, firstOf, NoneApplies, orRow}
@@ -33,7 +33,7 @@ TellsEnd = (p q : Position) (e f : End) → endNumber p e ≡ endNumber q f → 
 
 -- Of any two numbers, the largest common divisor divides both, and every number that divides both divides it; no other number does so.
 abbrev pub DivisorExactly : Type 0
-DivisorExactly = (g a b : ℕ) → (g ≡ largestDivisor a b) ↔ IsLargestDivisor g a b
+DivisorExactly = (g a b : ℕ) → (g ≡ largestCommonDivisor a b) ↔ IsLargestCommonDivisor g a b
 
 -- Reduced, a fraction is the same fraction in lowest terms; and there is only one pair of numbers that is.
 abbrev pub ReducedExactly : Type 0
@@ -43,6 +43,6 @@ ReducedExactly = (r x : Fraction) → IsFraction x → (r ≡ reduced x) ↔ (Re
 abbrev pub SameReduced : Type 0
 SameReduced = (x y : Fraction) → IsFraction x → IsFraction y → Same x y → reduced x ≡ reduced y
 
--- A fraction that is a whole number is that number over 1.
+-- Reduced, a fraction that is a whole number is that number over 1.
 abbrev pub WholeReduced : Type 0
 WholeReduced = (x : Fraction) (n : ℕ) → IsFraction x → Same x (whole n) → reduced x ≡ whole n

@@ -43,7 +43,7 @@ fn answer(line: &[u8]) {
             b'F' => meters::of_card(line),
             b'M' => meters::of_state(line),
             b'V' => verdicts::of_point(line),
-            b'G' => verdicts::limit_of(line),
+            b'G' => verdicts::limit_at_point(line),
             b'J' => verdicts::of_limit(line),
             b'O' => readers::of_opening(line),
             b'C' => readers::of_card(line),

@@ -44,7 +44,7 @@ fn put_verdict(answer: Verdict) {
 }
 
 // `G,part,class,stage,delta min,difference,qp,q`: L with the limit's numerator and denominator, or X and the refusal.
-pub(crate) fn limit_of(line: &[u8]) {
+pub(crate) fn limit_at_point(line: &[u8]) {
     let answer = verdict::error_limit(point_of(line));
     match answer {
         ErrorLimit::Percent(limit) => {

@@ -13,7 +13,7 @@ use Rattle.quantity.specs.declared.fraction.Fraction.{Fraction}
 use Rattle.quantity.specs.declared.refusal.Outcome.{Outcome}
 use Rattle.quantity.specs.declared.refusal.Outcome.the-variants.{Accepted, Refused as RowRefused}
 use Rattle.verdict.specs.Certificate.{refusedOrLimit, errorLimitOf, comparisonOf}
-use Rattle.verdict.specs.Limit.{figuresOf, partLimit, limitOf}
+use Rattle.verdict.specs.Limit.{figuresOf, partLimit, limitAtStage, limitOf}
 use Rattle.verdict.specs.Rows.{valueOutside, pointRows, Admitted}
 use Rattle.verdict.specs.Theorems.{LimitExactly, WholePercent, LimitAboveZero, comparedWith, FromPair}
 use Rattle.verdict.specs.Verdict.{passes, answer, refusedOr, verdictOf}
@@ -54,9 +54,9 @@ limit-above-zero p r e =
     above-zero-too r (limitAt p) (h .1) (limit-above p (h .0))
 
 -- the stage, for any fraction that equals the limit at verification
-pub at-stage : (f : Figures) (p : TestPoint) (r : Fraction) → Represents r (partLimit f p) → Represents (cond (eqb (p .stage) 1) r (times (whole 2) r)) (limitOf f p)
+pub limit-at-stage : (f : Figures) (p : TestPoint) (r : Fraction) → Represents r (partLimit f p) → Represents (limitAtStage (p .stage) r) (limitOf f p)
 unfolding limitOf
-at-stage f p r h = go (eqb (p .stage) 1)
+limit-at-stage f p r h = go (eqb (p .stage) 1)
   where
     go : (b : Bool) → Represents (cond b r (times (whole 2) r)) (cond b (partLimit f p) (times (whole 2) (partLimit f p)))
     go true = h

@@ -14,22 +14,22 @@ use Rattle.verdict.specs.declared.point.TestPoint.{TestPoint}
 use Rattle.verdict.proofs.ClassFigures.{of-class}
 use Rattle.verdict.proofs.Ranges.{ranges}
 
-record Pieces (P : Fraction → Type 0) (f : Figures) (p : TestPoint) : Type 0 where
+record EachPart (P : Fraction → Type 0) (f : Figures) (p : TestPoint) : Type 0 where
   calculator : P (calculatorLimit p)
   pair : P (pairLimit p)
   flow-sensor : P (flowSensorLimit f p)
   complete : P (completeLimit f p)
 
 -- what holds of each part's limit, and of twice it, holds of the limit
-of-pieces : (P : Fraction → Type 0) (f : Figures) (p : TestPoint) → ((x : Fraction) → P x → P (times (whole 2) x)) → Pieces P f p → P (limitOf f p)
+of-parts : (P : Fraction → Type 0) (f : Figures) (p : TestPoint) → ((x : Fraction) → P x → P (times (whole 2) x)) → EachPart P f p → P (limitOf f p)
 unfolding limitOf partLimit
-of-pieces P f p doubles each =
+of-parts P f p doubles each =
     let part = of-either P (eqb (p .part) 1) (calculatorLimit p) _ (each .calculator)
     (of-either P (eqb (p .part) 2) (pairLimit p) _ (each .pair)
     (of-either P (eqb (p .part) 3) (flowSensorLimit f p) (completeLimit f p) (each .flow-sensor) (each .complete))) in
     of-either P (eqb (p .stage) 1) (partLimit f p) (times (whole 2) (partLimit f p)) part (doubles _ part)
 
-fractions : (f : Figures) (p : TestPoint) → 0 < p .difference .0 → 0 < p .q → Pieces IsFraction f p
+fractions : (f : Figures) (p : TestPoint) → 0 < p .difference .0 → 0 < p .q → EachPart IsFraction f p
 unfolding completeLimit flowSensorLimit flowSensorSum pairLimit calculatorLimit
 fractions f p d q =
     let c : IsFraction (calculatorLimit p) = of-plus _ _ (lit< tt) d in
@@ -45,13 +45,13 @@ complete-is-fraction f p a =
 pub limit-is-fraction : LimitIsFraction
 limit-is-fraction f p a =
     let r = ranges p a in
-    of-pieces IsFraction f p (λ x h. of-times _ _ (lit< tt) h) (fractions f p (omega arith) (omega arith))
+    of-parts IsFraction f p (λ x h. of-times _ _ (lit< tt) h) (fractions f p (omega arith) (omega arith))
 
 -- above zero percent
 abbrev Above : Fraction → Type 0
 Above x = 0 < x .numerator
 
-above : (f : Figures) (p : TestPoint) → 0 < p .difference .0 → 0 < p .q → 0 < f .constant → 0 < f .cap → Pieces Above f p
+above : (f : Figures) (p : TestPoint) → 0 < p .difference .0 → 0 < p .q → 0 < f .constant → 0 < f .cap → EachPart Above f p
 unfolding completeLimit flowSensorLimit flowSensorSum pairLimit calculatorLimit
 above f p d q k m =
     let each = fractions f p d q in
@@ -65,4 +65,4 @@ unfolding times
 limit-above p a =
     let r = ranges p a in
     let c = of-class (p .class) (r .class .0) (r .class .1) in
-    of-pieces Above _ p (λ x h. omega (arith, h)) (above _ p (omega arith) (omega arith) (omega (arith, c)) (omega (arith, c)))
+    of-parts Above _ p (λ x h. omega (arith, h)) (above _ p (omega arith) (omega arith) (omega (arith, c)) (omega (arith, c)))

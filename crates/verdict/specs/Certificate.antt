@@ -1,5 +1,6 @@
--- The limit on the certificate, document 02, request 4: "Split the verdict in two: one operation gives the limit in percent as two whole numbers,
--- numerator and denominator, with no common divisor above 1, and another compares an error with any numerator and denominator, reduced or not."
+-- The limit on the certificate, document 02, request 4: "Split the verdict in two: one operation gives the limit in percent as two whole
+-- numbers, numerator and denominator, with no common divisor above 1, and another compares an error with any numerator and denominator,
+-- reduced or not."
 use Prim.Native.Nat.{ℕ}
 use Rattle.quantity.specs.Divisors.{reduced}
 use Rattle.quantity.specs.Refusals.{firstOf}
@@ -23,6 +24,7 @@ refusedOrLimit Accepted l = Percent l
 unfoldable pub errorLimitOf : TestPoint → ErrorLimit
 errorLimitOf p = refusedOrLimit (firstOf (pointRows p)) (reduced (limitOf (figuresOf (p .class)) p))
 
--- the comparison of the indicated value i with any limit l, x being the conventional true value; "the second 55, also for a zero denominator"
+-- the comparison of the error of the indicated value i, x being the conventional true value, with any numerator and denominator l; "the second
+-- 55, also for a zero denominator"
 unfoldable pub comparisonOf : Fraction → ℕ → ℕ → Verdict
 comparisonOf l i x = refusedOr (firstOf (comparisonRows l i x)) (answer (passes l i x))

@@ -73,6 +73,9 @@ partLimit f p =
     (cond (eqb (p .part) 3) (flowSensorLimit f p)
     (completeLimit f p)))
 
--- by stage: 1 verification, 2 in service; 52 refuses every other stage
+-- "In service, twice the result": by stage, 1 verification, 2 in service; 52 refuses every other stage
+abbrev pub limitAtStage : ℕ → Fraction → Fraction
+limitAtStage stage l = cond (eqb stage 1) l (times (whole 2) l)
+
 unfoldable pub limitOf : Figures → TestPoint → Fraction
-limitOf f p = cond (eqb (p .stage) 1) (partLimit f p) (times (whole 2) (partLimit f p))
+limitOf f p = limitAtStage (p .stage) (partLimit f p)

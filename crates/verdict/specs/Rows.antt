@@ -1,6 +1,6 @@
 -- Document 01's refusals, row "Verdict": "50 part; 51 class not 1..3, whatever the part; 52 stage; 53 Δmin not 1, 2, 3 or D
--- outside 100×Δmin..18000; 54 qp or q outside 1..10^9; 55 X zero, or I or X above 10^12−1". Document 02, request 4, of the two operations that the
--- verdict calls: "the first gives 50 to 54, the second 55, also for a zero denominator".
+-- outside 100×Δmin..18000; 54 qp or q outside 1..10^9; 55 X zero, or I or X above 10^12−1". Document 02, request 4, of the two
+-- operations that the verdict calls: "the first gives 50 to 54, the second 55, also for a zero denominator".
 use Prim.Native.Nat.{ℕ, _-_, _^_}
 use mathlib.Core.Path.{_≡_}
 use mathlib.Core.Bool.{Bool, _||_}

@@ -41,7 +41,7 @@ fn is_within(limit: Fraction, indicated: u64, conventional_true: u64) -> bool
     !product_less(limit.numerator, conventional_true, error, limit.denominator)
 }
 
-// The condition of 55, as far as the two values meet it.
+// What 55 asks of the two values.
 fn is_value_outside(indicated: u64, conventional_true: u64) -> bool
     ensures { λ r. ⌜ r ≡ valueOutside indicated «conventional_true» ⌝ }
 {
@@ -54,7 +54,7 @@ fn is_value_outside(indicated: u64, conventional_true: u64) -> bool
     LARGEST_VALUE < conventional_true
 }
 
-// The condition of 55.
+// The condition of 55, "also for a zero denominator".
 fn is_incomparable(limit: Fraction, indicated: u64, conventional_true: u64) -> bool
     ensures { λ r. ⌜ r ≡ incomparable limit indicated «conventional_true» ⌝ }
 {

@@ -1,5 +1,5 @@
-// The maximum permissible error of a test point: its limit as an exact fraction of percent, in lowest terms as the certificate prints it
-// (document 01, "Error verdict"; document 02, request 4).
+// The maximum permissible error of a test point: its limit as an exact fraction of percent, in lowest terms for the certificate (document 01,
+// "Error verdict"; document 02, request 4).
 use crate::class::Figures;
 use crate::class::figures_of_class;
 use crate::point::TestPoint;
@@ -7,11 +7,9 @@ use quantity::Fraction;
 use quantity::Outcome;
 ghost use mathlib.Core.Path.{_≡_};
 ghost use Prim.Native.Nat.{_+_, _*_, _^_, _≤_, min};
-ghost use mathlib.Core.Bool.{cond};
-ghost use lib.Dec.{eqb};
-ghost use Rattle.quantity.specs.Fractions.{Represents, times, whole};
+ghost use Rattle.quantity.specs.Fractions.{Represents};
 ghost use Rattle.verdict.specs.Certificate.{errorLimitOf};
-ghost use Rattle.verdict.specs.Limit.{partLimit};
+ghost use Rattle.verdict.specs.Limit.{partLimit, limitAtStage};
 ghost use Rattle.verdict.specs.inside.Fit.{FiguresFit};
 ghost use Rattle.verdict.specs.Rows.{largestFlow, Admitted};
 
@@ -67,9 +65,9 @@ fn part_limit(figures: Figures, point: TestPoint) -> Fraction
 }
 
 // The limit at a stage, from the one at verification: in service, twice as much.
-fn at_stage(at_verification: Fraction, stage: u64) -> Fraction
+fn limit_at_stage(at_verification: Fraction, stage: u64) -> Fraction
     requires { ⌜ «at_verification» .numerator ≤ 10 ^ 18 ⌝ }
-    ensures { λ r. ⌜ r ≡ cond (eqb stage 1) «at_verification» (times (whole 2) «at_verification») ⌝ }
+    ensures { λ r. ⌜ r ≡ limitAtStage stage «at_verification» ⌝ }
 {
     if stage == 1 {
         return at_verification;
@@ -90,7 +88,7 @@ pub fn error_limit(point: TestPoint) -> ErrorLimit
         Outcome::Refused(number) => ErrorLimit::Refused(number),
         Outcome::Accepted => {
             let at_verification = part_limit(figures_of_class(point.class), point);
-            let limit = at_stage(at_verification, point.stage);
+            let limit = limit_at_stage(at_verification, point.stage);
             let lowest = limit.reduced();
             ErrorLimit::Percent(lowest)
         }

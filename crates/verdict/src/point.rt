@@ -11,7 +11,7 @@ ghost use Rattle.verdict.specs.Rows.{differenceOutside, flowOutside, poi
 const LARGEST_FLOW: u64 = 1000000000;
 
 // What is tested, and where: the inputs of document 01, "Error verdict", without the two values compared. Any
-// content can stand here: the verdict refuses what is out of range.
+// content can stand here: the limit, and so the verdict, refuses what is out of range.
 pub struct TestPoint {
     // 1 calculator, 2 temperature sensor pair, 3 flow sensor, 4 complete instrument
     pub part: u64,

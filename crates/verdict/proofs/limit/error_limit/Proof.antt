@@ -7,7 +7,7 @@ use Rattle.verdict.specs.Certificate.{refusedOrLimit, errorLimitOf}
 use Rattle.verdict.specs.Limit.{figuresOf, limitOf}
 use Rattle.verdict.specs.Rows.{Admitted}
 use Rattle.verdict.specs.declared.limit.ErrorLimit.the-variants.{Percent}
-use Rattle.verdict.proofs.Certificate.{at-stage, printed}
+use Rattle.verdict.proofs.Certificate.{limit-at-stage, printed}
 use Rattle.verdict.proofs.ClassFigures.{figures-fit}
 use Rattle.verdict.proofs.Ranges.{ranges}
 use Rattle.verdict.proofs.limit.error_limit.Statement.{statement}
@@ -18,12 +18,12 @@ admitted : (c : tie.After-enum-told) → Admitted (c .before .before .before .ar
 admitted c = sym (c .before .before .refusal .ensures) ∙ c .enum-told .given .1
 
 -- the limit at the stage equals the definition's
-limit : (c : tie.After-at-stage) →
+limit : (c : tie.After-limit-at-stage) →
     let p = c .before .before .before .before .before .before .args .point in
-    Represents (c .at-stage .result) (limitOf (figuresOf (p .class)) p)
+    Represents (c .limit-at-stage .result) (limitOf (figuresOf (p .class)) p)
 limit c =
     let f = c .before .before in
-    rw (c .at-stage .ensures) (at-stage (figuresOf _) _ _ (rw (sym (f .figures-of-class .ensures)) (c .before .part-limit .ensures .0)))
+    rw (c .limit-at-stage .ensures) (limit-at-stage (figuresOf _) _ _ (rw (sym (f .figures-of-class .ensures)) (c .before .part-limit .ensures .0)))
 
 refusal-requires : tie.Need-refusal-requires
 refusal-requires c κs = search needs
@@ -43,8 +43,8 @@ part-limit-requires c κs =
     let r = ranges _ a .class in
     (rw (c .figures-of-class .ensures) (figures-fit _ (r .0) (r .1)), a)
 
-at-stage-requires : tie.Need-at-stage-requires
-at-stage-requires c κs = search needs
+limit-at-stage-requires : tie.Need-limit-at-stage-requires
+limit-at-stage-requires c κs = search needs
 
 reduced-requires : tie.Need-reduced-requires
 reduced-requires c κs = search needs
@@ -68,7 +68,7 @@ error-limit-spec =
     enum-told
     figures-of-class-requires
     part-limit-requires
-    at-stage-requires
+    limit-at-stage-requires
     reduced-requires
     returns
     returns-2)

@@ -1,17 +1,17 @@
--- `quantity::divisor::largest_divisor` meets its contract. The loop's invariant: the two numbers have the largest common divisor that those
+-- `quantity::divisor::largest_common_divisor` meets its contract. The loop's invariant: the two numbers have the largest common divisor that those
 -- given have. Each turn, the second one falls.
 -- Assumes nothing.
 use mathlib.Core.Path.{_≡_, refl, _∙_, ap}
 use Prim.Native.Nat.{ℕ}
 use native.Mathlib.Nat.{mod-lt}
 use native.Mathlib.Omega.{arith}
-use Rattle.quantity.specs.Divisors.{largestDivisor}
+use Rattle.quantity.specs.Divisors.{largestCommonDivisor}
 use Rattle.quantity.proofs.Divisors.{divisor-of-zero, divisor-of-step}
-use Rattle.quantity.proofs.divisor.largest_divisor.Statement.{statement}
-use Rattle.quantity.proofs.divisor.largest_divisor.Tie as tie
+use Rattle.quantity.proofs.divisor.largest_common_divisor.Statement.{statement}
+use Rattle.quantity.proofs.divisor.largest_common_divisor.Tie as tie
 
 abbrev Inv-loop : tie.InvT-loop
-Inv-loop a b first₀ second₀ first second = largestDivisor first second ≡ largestDivisor a b
+Inv-loop a b first₀ second₀ first second = largestCommonDivisor first second ≡ largestCommonDivisor a b
 
 abbrev μ-loop : tie.MeasureT-loop
 μ-loop a b first₀ second₀ first second = second
@@ -31,8 +31,8 @@ loop-again c = divisor-of-step _ _ ∙ c .before .loop .inv
 returns : tie.Need-returns Inv-loop μ-loop
 returns c =
     let l = c .before .loop in
-    divisor-of-zero (l .first) ∙ ap (λ (x : ℕ). largestDivisor (l .first) x) (omega arith) ∙ l .inv
+    divisor-of-zero (l .first) ∙ ap (λ (x : ℕ). largestCommonDivisor (l .first) x) (omega arith) ∙ l .inv
 
-pub largest-divisor-spec : {M : Type 1} → statement M
-largest-divisor-spec =
+pub largest-common-divisor-spec : {M : Type 1} → statement M
+largest-common-divisor-spec =
     tie.close (tie.spec Inv-loop μ-loop loop-holds rem-rest loop-less loop-again returns)

@@ -1,11 +1,11 @@
--- `verdict::limit::at_stage` meets its contract: by the stage.
+-- `verdict::limit::limit_at_stage` meets its contract: by the stage.
 -- Assumes nothing.
 use borrow.Author.Needs.{needs}
 use borrow.Author.Tests.{ne-eqb}
 use native.Mathlib.Nat.{one-mul}
 use Rattle.quantity.specs.Fractions.{times}
-use Rattle.verdict.proofs.limit.at_stage.Statement.{statement}
-use Rattle.verdict.proofs.limit.at_stage.Tie as tie
+use Rattle.verdict.proofs.limit.limit_at_stage.Statement.{statement}
+use Rattle.verdict.proofs.limit.limit_at_stage.Tie as tie
 
 returns : tie.Need-returns
 returns c = simp (c .if1 .taken)
@@ -17,5 +17,5 @@ returns-2 c = simp (ne-eqb _ _ (c .before .if1 .left), one-mul)
 mul-twice : tie.Need-mul-twice
 mul-twice c = search needs
 
-pub at-stage-spec : {M : Type 1} → statement M
-at-stage-spec = tie.close (tie.spec returns mul-twice returns-2)
+pub limit-at-stage-spec : {M : Type 1} → statement M
+limit-at-stage-spec = tie.close (tie.spec returns mul-twice returns-2)
