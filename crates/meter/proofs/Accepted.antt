@@ -6,10 +6,10 @@ use Prim.Native.Nat.{ℕ, _+_, _*_, _^_, _≤_, _<_}
 use native.Mathlib.Nat.{mul-le-mul}
 use native.Mathlib.Omega.{arith}
 use lib.Dec.{ltb, leb, eqb}
-use borrow.Author.Tests.{le-ltb, ltb-false, leb-true, leb-false, eqb-false, eqb-true, not-false}
+use borrow.Author.Tests.{le-ltb, ltb-true, ltb-false, leb-true, leb-false, eqb-false, eqb-true, not-false}
 use Rattle.quantity.specs.Refusals.{outside, NoneApplies}
 use Rattle.quantity.proofs.Conditions.{neither, both, inside}
-use Rattle.quantity.specs.Units.{lastHundredth, lastDegree, largestKelvins, distanceOf}
+use Rattle.quantity.specs.Units.{lastHundredth, lastDegree, largestKelvins, isColder, distanceOf}
 use Rattle.quantity.specs.declared.units.Temperature.{Temperature}
 use Rattle.quantity.specs.declared.range.Position.{Position}
 use Rattle.quantity.specs.declared.range.Position.the-variants.{Supply, Return}
@@ -143,21 +143,18 @@ accepted-counts c s h =
     let p = neither _ _ (h .1 .0) in
     record { seconds = inside _ _ _ (h .0); pulses = ltb-false _ _ (p .0); volume = ltb-false _ _ (p .1) }
 
--- the supply temperature lies above that of the return
-pub record AcceptedPair (c : Card) (s : Sample) : Type 0 where
-  pub warmer : tr c s .0 ≤ ts c s .0
-  pub apart : tr c s .0 + c .«delta_min» * 100 ≤ ts c s .0
+-- two temperatures that lie so much apart, whichever is the warmer
+pub record Apart (a b : Temperature) (n : ℕ) : Type 0 where
+  pub colder : isColder a b ≡ true → a .0 + n ≤ b .0
+  pub not-colder : isColder a b ≡ false → b .0 + n ≤ a .0
 
-above : (a b : Temperature) (n : ℕ) → b .0 ≤ a .0 → n ≤ distanceOf a b .0 → b .0 + n ≤ a .0
+apart : (a b : Temperature) (n : ℕ) → n ≤ distanceOf a b .0 → Apart a b n
 unfolding distanceOf
-above a b n h l = omega arith
+apart a b n l = record { colder = λ e. omega (arith, ltb-true (a .0) (b .0) e); not-colder = λ e. omega (arith, ltb-false (a .0) (b .0) e) }
 
-pub accepted-pair : (e : ℕ) (c : Card) (s : Sample) → NoneApplies (rangeRows e c s) → AcceptedPair c s
+pub accepted-pair : (e : ℕ) (c : Card) (s : Sample) → NoneApplies (rangeRows e c s) → Apart (ts c s) (tr c s) (c .«delta_min» * 100)
 unfolding rangeRows
-accepted-pair e c s h =
-    let h36 = h .1 .1 in
-    let warmer = ltb-false (ts c s .0) (tr c s .0) (h36 .0) in
-    record { warmer = warmer; apart = above _ _ _ warmer (ltb-false _ _ (h36 .1 .0)) }
+accepted-pair e c s h = apart _ _ _ (ltb-false _ _ (h .1 .1 .1 .0))
 
 -- an edition that keeps no seconds accepts no sample above q_s
 pub accepted-flow : (e : ℕ) (c : Card) (s : Sample) → NoneApplies (rangeRows e c s) → keepsSeconds e ≡ false → isAboveQs c s ≡ false

@@ -10,10 +10,10 @@ use Rattle.water.specs.Heat.{heatOf}
 use Rattle.water.proofs.Accepted.{heat-accepted}
 use Rattle.water.specs.declared.answers.Heat.the-variants.{Millijoules, Refused}
 use Rattle.meter.specs.Sample.{volumeOf, ts, tr, sampleHeat}
-use Rattle.meter.specs.inside.Stages.{Ranged}
+use Rattle.meter.specs.inside.Stages.{PairedIn}
 use Rattle.meter.specs.declared.state.Meter.{Meter}
 use Rattle.meter.specs.declared.sample.Sample.{Sample}
-use Rattle.meter.proofs.Accepted.{accepted-card, accepted-counts, accepted-pair, temperature-at-most}
+use Rattle.meter.proofs.Accepted.{accepted-card, accepted-counts, temperature-at-most}
 
 pub same-heat : (x y : ℕ) → Millijoules x ≡ Millijoules y → x ≡ y
 same-heat x y e = cc
@@ -22,7 +22,7 @@ pub never-refused : (n x : ℕ) → Refused n ≡ Millijoules x → ⊥
 never-refused n x e = let z : _≡_ {A = ℕ} 0 1 = cc in omega arith
 
 -- the water's operation refuses nothing of an accepted sample: it answers the floor of the sample's exact heat
-pub of-sample : (m : Meter) (s : Sample) (volume : ℕ) (supply returned : Temperature) → Ranged m s volume supply returned →
+pub of-sample : (m : Meter) (s : Sample) (volume : ℕ) (supply returned : Temperature) → PairedIn m s volume supply returned →
     heatOf water volume supply returned (m .card .place) ≡ Millijoules (floored (sampleHeat (m .card) s))
 unfolding sampleHeat
 of-sample m s volume supply returned h =
@@ -31,4 +31,4 @@ of-sample m s volume supply returned h =
     let q = p .volumed in
     rw (q .volume-is, p .supply-is, p .returned-is)
     (heat-accepted water (volumeOf c s) (ts c s) (tr c s) (c .place) (accepted-card c (q .card) .place) (temperature-at-most _ _)
-    (accepted-pair (m .edition) c s (h .range) .warmer) (accepted-counts c s (q .count) .volume))
+    (temperature-at-most _ _) (accepted-counts c s (q .count) .volume))

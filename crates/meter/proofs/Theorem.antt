@@ -6,20 +6,24 @@ use mathlib.Core.Bool.{cond, _&&_}
 use Prim.Native.Nat.{ℕ, _+_, _*_, _≤_, _<_}
 use native.Mathlib.Nat.{le-div-iff-mul-le}
 use native.Mathlib.Omega.{arith}
+use lib.Dec.{ltb}
 use borrow.Author.Tests.{ltb-true, ltb-false}
 use Rattle.quantity.specs.Refusals.{row, firstOf}
 use Rattle.quantity.specs.declared.refusal.Outcome.{Outcome}
 use Rattle.quantity.specs.declared.refusal.Outcome.the-variants.{Accepted, Refused}
 use Rattle.quantity.proofs.Rows.{none-applies, no-refusal, none-of-parts, none-together}
 use Rattle.water.specs.Table.{water}
-use Rattle.quantity.specs.Fractions.{plus}
+use Rattle.water.specs.Heat.{exactHeat}
+use Rattle.quantity.specs.Units.{lastHundredth}
+use Rattle.quantity.specs.declared.units.Temperature.{Temperature}
+use Rattle.quantity.specs.Fractions.{IsFraction, plus}
 use Rattle.quantity.specs.declared.fraction.Fraction.{Fraction}
 use Rattle.water.proofs.Bounds.{water-bounded}
-use Rattle.water.proofs.ExactHeats.{heat-is-fraction, no-volume-no-heat, at-least-2000}
+use Rattle.water.proofs.ExactHeats.{heat-is-fraction, no-volume-no-heat, at-least-2000, of-either-order}
 use Rattle.meter.specs.Edition.{isOtherEdition}
 use Rattle.meter.specs.Card.{cardRows}
 use Rattle.meter.specs.State.{freshRows, freshOf, freshAnswer, zeros}
-use Rattle.meter.specs.Sample.{volumeOf, hasVolume, sampleHeat}
+use Rattle.meter.specs.Sample.{volumeOf, hasVolume, ts, tr, sampleHeat}
 use Rattle.meter.specs.Sum.{Mark, heatSamples, nothing, sumFrom, allowanceFrom, WithinBounds}
 use Rattle.meter.specs.Calls.{Calls, none, step, markOf}
 use Rattle.meter.specs.Answers.{NoRowRefuses, Answers, accepts, refuses-sample, refuses-before}
@@ -36,23 +40,30 @@ use Rattle.meter.proofs.Accepted.{accepted-card, accepted-pair, tempera
 -- the exact heat's lower number is above zero, also where a sample has no temperature
 pub sample-heat-is-fraction : SampleHeatIsFraction
 unfolding sampleHeat
-sample-heat-is-fraction c s = heat-is-fraction water water-bounded _ _ _ _
+sample-heat-is-fraction c s =
+    of-either-order IsFraction water _ _ _ _ (λ e. heat-is-fraction water water-bounded _ _ _ _) (λ e. heat-is-fraction water water-bounded _ _ _ _)
 
--- the exact heat of an accepted sample
+-- the exact heat between temperatures that lie at least 1 K apart
+between : (u : ℕ) (warm cold measured : Temperature) → cold .0 + 100 ≤ warm .0 → warm .0 ≤ lastHundredth →
+    HeatBounds (ltb 0 u) (exactHeat water u warm cold measured)
+between u warm cold measured apart most = record {
+  is-fraction = heat-is-fraction water water-bounded u warm cold measured;
+  none = λ e.
+      let no-volume : u ≡ 0 = omega (arith, ltb-false 0 u e) in
+      rw no-volume (no-volume-no-heat water _ _ _);
+  least = λ e. at-least-2000 water water-bounded u warm cold measured (ltb-true 0 u e) apart most;
+}
+
+-- so the exact heat of an accepted sample, whichever of its temperatures is the warmer
 heat-bounds : (m : Meter) (s : Sample) → NoRowRefuses m s → HeatBounds (hasVolume (m .card) s) (sampleHeat (m .card) s)
 unfolding sampleHeat
 heat-bounds m s h =
     let c = m .card in
-    let card = accepted-card c (h .card) in
+    let least = accepted-card c (h .card) .delta-min .0 in
     let pair = accepted-pair (m .edition) c s (h .range) in
-    record {
-      is-fraction = sample-heat-is-fraction c s;
-      none = λ e.
-          let no-volume : volumeOf c s ≡ 0 = omega (arith, ltb-false 0 (volumeOf c s) e) in
-          rw no-volume (no-volume-no-heat water _ _ _);
-      least = λ e.
-          at-least-2000 water water-bounded _ _ _ _ (ltb-true _ _ e) (omega (arith, pair .apart, card .delta-min .0)) (temperature-at-most _ _);
-    }
+    of-either-order (HeatBounds (hasVolume c s)) water (volumeOf c s) (ts c s) (tr c s) (c .place)
+    (λ e. between _ _ _ _ (omega (arith, pair .colder e)) (temperature-at-most _ _))
+    (λ e. between _ _ _ _ (omega (arith, pair .not-colder e)) (temperature-at-most _ _))
 
 -- the bounds after one call more
 abbrev After : Card → Sample → Stepped → ℕ → Fraction → Type 0

@@ -7,9 +7,8 @@ use Rattle.quantity.specs.declared.units.Temperature.{Temperature}
 use Rattle.platinum.specs.Temperature.{temperatureOf}
 use Rattle.platinum.specs.declared.reading.Measured.{Measured}
 use Rattle.water.specs.Table.{water}
-use Rattle.water.specs.Pair.{atPlace}
 use Rattle.quantity.specs.declared.fraction.Fraction.{Fraction}
-use Rattle.water.specs.Heat.{exactHeat}
+use Rattle.water.specs.Heat.{pairHeat}
 use Rattle.meter.specs.declared.card.Card.{Card}
 use Rattle.meter.specs.declared.sample.Sample.{Sample}
 
@@ -47,4 +46,4 @@ tr c s = temperatureOrMissing (returnOf c s)
 
 -- the exact heat: the step takes its floor, and the sum of demand 3 the fraction
 unfoldable pub sampleHeat : Card → Sample → Fraction
-sampleHeat c s = exactHeat water (volumeOf c s) (ts c s) (tr c s) (atPlace (c .place) (ts c s) (tr c s))
+sampleHeat c s = pairHeat water (volumeOf c s) (ts c s) (tr c s) (c .place)

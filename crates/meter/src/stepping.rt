@@ -20,7 +20,7 @@ ghost use lib.Dec.{ltb};
 ghost use Rattle.quantity.specs.Refusals.{firstOf};
 ghost use Rattle.meter.specs.State.{largestRegister, largestVolume, largestCount};
 ghost use Rattle.meter.specs.Step.{readingRows, rangeRows, limitRows, sampleRows, adding, refusing, bySample, stepOf};
-ghost use Rattle.meter.specs.inside.Stages.{BeforeSample, CountsPass, Compared, Ranged, Heated, Fits};
+ghost use Rattle.meter.specs.inside.Stages.{BeforeSample, CountsPass, Compared, PairedIn, Heated, Fits};
 
 // The meter after a step, and no refusal or its number.
 pub struct Stepped {
@@ -95,7 +95,7 @@ fn take_heat(
     supply: Temperature,
     returned: Temperature,
 ) -> Stepped
-    requires { ⌜ Ranged m s volume supply returned ⌝ }
+    requires { ⌜ PairedIn m s volume supply returned ⌝ }
     ensures { λ r. ⌜ r ≡ bySample m s (firstOf (limitRows m s)) ⌝ }
 {
     let answer = water::heat(volume, supply, returned, m.card.place);

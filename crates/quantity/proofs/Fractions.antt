@@ -18,10 +18,14 @@ pub of-times : (x y : Fraction) → IsFraction x → IsFraction y → IsFraction
 unfolding times
 of-times x y p q = mul-pos p q
 
--- what holds of both holds of either, and so of the smaller
+-- what holds of each in its own case holds of either
+pub of-case : (P : Fraction → Type 0) (b : Bool) (x y : Fraction) → (b ≡ true → P x) → (b ≡ false → P y) → P (cond b x y)
+of-case P true x y p q = p refl
+of-case P false x y p q = q refl
+
+-- and so does what holds of both, and holds of the smaller
 pub of-either : (P : Fraction → Type 0) (b : Bool) (x y : Fraction) → P x → P y → P (cond b x y)
-of-either P true x y p q = p
-of-either P false x y p q = q
+of-either P b x y p q = of-case P b x y (λ e. p) (λ e. q)
 
 pub of-smaller : (P : Fraction → Type 0) (x y : Fraction) → P x → P y → P (smaller x y)
 unfolding smaller

@@ -16,7 +16,7 @@ heat-accepted w u ts tr place p q r s =
         p,
         (
           le-ltb (w .last * 100) (ts .0) (omega arith),
-          (le-ltb (w .last * 100) (tr .0) (omega arith), (le-ltb (ts .0) (tr .0) r, (le-ltb 1000000 u s, tt))),
+          (le-ltb (w .last * 100) (tr .0) (omega arith), (le-ltb 1000000 u s, tt)),
         ),
       ),
     )

@@ -9,23 +9,23 @@ use lib.Dec.{eqb}
 use borrow.Author.Tests.{ltb-true, ltb-false, le-ltb, not-false}
 use Rattle.quantity.specs.declared.units.Temperature.{Temperature}
 use Rattle.quantity.specs.Units.{isColder}
-use Rattle.quantity.specs.Refusals.{Row, row, firstOf, orRow, NoneApplies}
+use Rattle.quantity.specs.Refusals.{Row, firstOf, NoneApplies}
+use Rattle.quantity.specs.Theorems.{after}
 use Rattle.quantity.proofs.Rows.{accumulated}
 use Rattle.water.specs.Table.{Table}
 use Rattle.water.specs.Pair.{atPlace, areEqual, pairRows}
 
--- one row more, as code takes it
-pub one-row-more :
-    (w : Table) (ts tr : Temperature) (place : ℕ) (b : Bool) (n : ℕ) →
-    orRow (firstOf (pairRows w ts tr place)) b n ≡ firstOf (pairRows w ts tr place ++ (row n b ∷ []))
-one-row-more w ts tr place b n =
-    let rs = pairRows w ts tr place in
-    rw (← accumulated rs) (accumulated (rs ++ (row n b ∷ [])))
+-- the rows that follow, as code takes them
+pub rows-more :
+    (w : Table) (ts tr : Temperature) (place : ℕ) (rs : List Row) →
+    after (firstOf (pairRows w ts tr place)) rs ≡ firstOf (pairRows w ts tr place ++ rs)
+rows-more w ts tr place rs =
+    let first = pairRows w ts tr place in
+    rw (← accumulated first) (accumulated (first ++ rs))
 
 pub record Passed (w : Table) (ts tr : Temperature) : Type 0 where
   pub supply : ts .0 ≤ 100 * w .last
   pub return : tr .0 ≤ 100 * w .last
-  pub order : tr .0 ≤ ts .0
 
 pub passed :
     (w : Table) (ts tr : Temperature) (place : ℕ) (rs : List Row) →
@@ -34,9 +34,8 @@ passed w ts tr place rs h = (
   record {
     supply = omega (arith, ltb-false (w .last * 100) (ts .0) (h .1 .0));
     return = omega (arith, ltb-false (w .last * 100) (tr .0) (h .1 .1 .0));
-    order = ltb-false (ts .0) (tr .0) (h .1 .1 .1 .0);
   },
-  h .1 .1 .1 .1,
+  h .1 .1 .1,
 )
 
 -- two temperatures in order that are not equal

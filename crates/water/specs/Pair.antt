@@ -24,12 +24,10 @@ areEqual a b = not (isColder a b) && not (isColder b a)
 abbrev pub isAbove : Table → Temperature → Bool
 isAbove w t = isColder (wholeDegrees (w .last)) t
 
--- the row "Coefficient" of the refusal table up to 36: "11; 32, 33 t above 18000; 36", where 11 is "place not 1 or 2" and
--- 36 is "ts < tr"; with "70 supply and 71 return above 180.00 °C, in the places of 32 and 33" (document 02, request 1). No t is below
--- 0.00 °C, so that 32 and 33 no longer come.
+-- the row "Coefficient" of the refusal table up to 33: "11; 32, 33 t above 18000", where 11 is "place not 1 or 2"; with "70 supply and 71
+-- return above 180.00 °C, in the places of 32 and 33" (document 02, request 1). No t is below 0.00 °C, so that 32 and 33 no longer come.
 abbrev pub pairRows : Table → Temperature → Temperature → ℕ → List Row
 pairRows w ts tr place =
     row 11 (outside place 1 2)
     ∷ row (endNumber Supply High) (isAbove w ts) ∷ row (endNumber Return High) (isAbove w tr)
-    ∷ row 36 (isColder ts tr)
     ∷ []

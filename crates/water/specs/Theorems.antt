@@ -9,8 +9,7 @@ use Rattle.quantity.specs.Fractions.{whole, IsFraction, AtMost, floored}
 use Rattle.quantity.specs.Refusals.{outside}
 use Rattle.water.specs.Table.{Table, water}
 use Rattle.water.specs.Interpolation.{enthalpyAt, volumeAt}
-use Rattle.water.specs.Pair.{atPlace}
-use Rattle.water.specs.Heat.{exactHeat, heatOf}
+use Rattle.water.specs.Heat.{exactHeat, pairHeat, heatOf}
 use Rattle.water.specs.declared.answers.Heat.{Heat}
 
 -- The bounds of a table that the register's bounds and the 64 bits of the code rest on.
@@ -51,5 +50,5 @@ AtLeast2000 =
 abbrev pub HeatAccepted : Type 0
 HeatAccepted =
     (w : Table) (u : ℕ) (ts tr : Temperature) (place : ℕ) →
-    outside place 1 2 ≡ false → ts .0 ≤ 100 * w .last → tr .0 ≤ ts .0 → u ≤ 1000000 →
-    heatOf w u ts tr place ≡ Heat.Millijoules (floored (exactHeat w u ts tr (atPlace place ts tr)))
+    outside place 1 2 ≡ false → ts .0 ≤ 100 * w .last → tr .0 ≤ 100 * w .last → u ≤ 1000000 →
+    heatOf w u ts tr place ≡ Heat.Millijoules (floored (pairHeat w u ts tr place))

@@ -19,7 +19,8 @@ use quantity::Temperature;
 pub fn coefficient(ts: Temperature, tr: Temperature, place: u64) -> Coefficient
     ensures { λ r. ⌜ r ≡ coefficientOf water ts tr place ⌝ }
 {
-    let refusal = pair_refusal(ts, tr, place).or_row(are_equal(ts, tr), 37);
+    let refusal = pair_refusal(ts, tr, place).or_row(ts.is_below(tr), 36);
+    let refusal = refusal.or_row(are_equal(ts, tr), 37);
     match refusal {
         Outcome::Refused(number) => Coefficient::Refused(number),
         Outcome::Accepted => {

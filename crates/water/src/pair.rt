@@ -34,6 +34,5 @@ pub(crate) fn pair_refusal(ts: Temperature, tr: Temperature, place: u64) -> Outc
     let return_number = end_number(Position::Return, End::High);
     let r = Outcome::Accepted.or_row(is_outside(place, 1, 2), 11);
     let r = r.or_row(top.is_below(ts), supply_number);
-    let r = r.or_row(top.is_below(tr), return_number);
-    r.or_row(ts.is_below(tr), 36)
+    r.or_row(top.is_below(tr), return_number)
 }

@@ -8,7 +8,7 @@ use Rattle.quantity.specs.Fractions.{floored}
 use Rattle.meter.specs.Card.{cardRows}
 use Rattle.meter.specs.State.{stateRows, largestRegister, largestVolume, largestCount, mostSeconds}
 use Rattle.meter.specs.Sample.{volumeOf, ts, tr, sampleHeat}
-use Rattle.meter.specs.Step.{countRows, rangeRows}
+use Rattle.meter.specs.Step.{countRows}
 use Rattle.meter.specs.declared.card.Card.{Card}
 use Rattle.meter.specs.declared.state.Meter.{Meter}
 use Rattle.meter.specs.declared.sample.Sample.{Sample}
@@ -41,11 +41,10 @@ pub record Paired (c : Card) (s : Sample) (volume : ℕ) (supply returned : Temp
   pub supply-is : supply ≡ ts c s
   pub returned-is : returned ≡ tr c s
 
--- and none of its ranges
-pub record Ranged (m : Meter) (s : Sample) (volume : ℕ) (supply returned : Temperature) : Type 0 where
+-- of a meter without a row so far
+pub record PairedIn (m : Meter) (s : Sample) (volume : ℕ) (supply returned : Temperature) : Type 0 where
   pub state : NoneApplies (stateRows m)
   pub pair : Paired (m .card) s volume supply returned
-  pub range : NoneApplies (rangeRows (m .edition) (m .card) s)
 
 -- what the sample would add to register and volume
 pub record Heated (m : Meter) (s : Sample) (heat volume : ℕ) : Type 0 where

@@ -7,7 +7,7 @@ use Rattle.meter.specs.Sample.{volumeOf}
 use Rattle.meter.specs.inside.Stages.{Paired}
 use Rattle.meter.specs.Step.{rangeRows, limitRows}
 use Rattle.meter.proofs.Accepted.{accepted-counts}
-use Rattle.meter.proofs.Stages.{passed, goes-on, stops, countable}
+use Rattle.meter.proofs.Stages.{goes-on, stops, countable}
 use Rattle.meter.proofs.stepping.take_pair.Statement.{statement}
 use Rattle.meter.proofs.stepping.take_pair.Tie as tie
 
@@ -40,7 +40,6 @@ take-heat-requires c κs =
     record {
       state = d .before .before .before .before .pre .counted .before-sample .state;
       pair = paired (d .before);
-      range = passed (rangeRows _ _ _) _ (d .range-refusal .ensures) (c .enum-told .given .1);
     }
 
 enum-known-refusal : tie.Need-enum-known-refusal

@@ -31,24 +31,15 @@ is-below-requires-2 c κs = search needs
 or-row-requires-3 : tie.Need-or-row-requires-3
 or-row-requires-3 c κs = search needs
 
-is-below-requires-3 : tie.Need-is-below-requires-3
-is-below-requires-3 c κs = search needs
-
-or-row-requires-4 : tie.Need-or-row-requires-4
-or-row-requires-4 c κs = search needs
-
 returns : tie.Need-returns
 returns c =
-    let last = c .before .before in
-    let middle = last .before .before in
+    let middle = c .before .before in
     let first = middle .before .before in
     let numbers = first .before .before in
     let a = numbers .before .before .args in
     simp (
-      c .or-row4 .ensures,
-      c .before .is-below3 .ensures,
-      last .or-row3 .ensures,
-      last .before .is-below2 .ensures,
+      c .or-row3 .ensures,
+      c .before .is-below2 .ensures,
       middle .or-row2 .ensures,
       middle .before .is-below .ensures,
       first .or-row .ensures,
@@ -70,6 +61,4 @@ pair-refusal-spec =
     or-row-requires-2
     is-below-requires-2
     or-row-requires-3
-    is-below-requires-3
-    or-row-requires-4
     returns)

@@ -11,8 +11,8 @@ use Rattle.quantity.proofs.Rows.{none-applies}
 use Rattle.quantity.specs.Units.{lastHundredth}
 use Rattle.water.specs.Table.{water}
 use Rattle.water.specs.declared.answers.Heat.the-variants.{Millijoules}
-use Rattle.water.specs.Heat.{heatRows, heatOf}
-use Rattle.water.proofs.Passed.{one-row-more, passed, at-place-at-most}
+use Rattle.water.specs.Heat.{pairHeat, heatRows, heatOf}
+use Rattle.water.proofs.Passed.{rows-more, passed, at-place-at-most}
 use Rattle.water.proofs.volume_heat.heat.Statement.{statement}
 use Rattle.water.proofs.volume_heat.heat.Tie as tie
 
@@ -23,7 +23,7 @@ outcome : (c : tie.After-or-row) → c .or-row .result ≡ firstOf (rows (c .bef
 outcome c =
     let a = c .before .before .args in
     simp (c .or-row .ensures, c .before .pair-refusal .ensures)
-    (one-row-more water (a .ts) (a .tr) (a .place) (ltb 1000000 (a .u)) 31)
+    (rows-more water (a .ts) (a .tr) (a .place) (row 31 (ltb 1000000 (a .u)) ∷ []))
 
 accepted : (c : tie.After-enum-told) → firstOf (rows (c .before .before .before .before)) ≡ Accepted
 accepted c = sym (outcome (c .before .before)) ∙ c .enum-told .given .1
@@ -43,14 +43,14 @@ enum-told c = search needs
 at-place-requires : tie.Need-at-place-requires
 at-place-requires c κs = search needs
 
-floored-heat-requires : tie.Need-floored-heat-requires
-floored-heat-requires c κs =
+floored-between-requires : tie.Need-floored-between-requires
+floored-between-requires c κs =
     let s = c .before .before .before .before .before in
     let a = s .args in
     let p = passed water (a .ts) (a .tr) (a .place) (row 31 (ltb 1000000 (a .u)) ∷ []) (none-applies (rows s) (accepted (c .before))) in (
       ltb-false 1000000 (a .u) (p .1 .0),
-      p .0 .order,
       p .0 .supply,
+      p .0 .return,
       rw (c .at-place .ensures) (at-place-at-most (a .place) (a .ts) (a .tr) lastHundredth (p .0 .supply) (p .0 .return)),
     )
 
@@ -59,8 +59,8 @@ unfolding heatOf
 returns c = simp (heatOf, sym (outcome (c .before .before .before)) ∙ c .before .refusal .given .1)
 
 returns-2 : tie.Need-returns-2
-unfolding heatOf
-returns-2 c = simp (heatOf, accepted (c .before .before), ← c .before .at-place .ensures) (ap Millijoules (c .floored-heat .ensures))
+unfolding heatOf pairHeat
+returns-2 c = simp (heatOf, pairHeat, accepted (c .before .before), ← c .before .at-place .ensures) (ap Millijoules (c .floored-between .ensures))
 
 pub heat-spec : {M : Type 1} → statement M
 heat-spec =
@@ -71,6 +71,6 @@ heat-spec =
     enum-known-refusal
     enum-told
     at-place-requires
-    floored-heat-requires
+    floored-between-requires
     returns
     returns-2)
