@@ -7,7 +7,7 @@ use Prim.Native.Nat.{ℕ, _≤_}
 use native.Mathlib.Omega.{arith}
 use lib.ListN.{length, getD, take}
 use lib.Seq.{length-take-le}
-use Rattle.meter.specs.Edition.{keepsSeconds}
+use Rattle.meter.specs.Edition.{keepsSeconds, countsCold}
 use Rattle.meter.specs.Card.{fieldsOf}
 use Rattle.meter.specs.declared.card.Card.{Card}
 use Rattle.meter.proofs.Elements.{all as all-elements}
@@ -29,11 +29,12 @@ card-of c = refl
 -- line E has no more numbers in any edition than in the newest
 pub totals-few : (e : ℕ) → countOf e totals ≤ mostLater
 unfolding countOf
-totals-few e = by (keepsSeconds e)
+totals-few e = by (countsCold e) (keepsSeconds e)
   where
-    by : (keeps : Bool) → cond keeps 5 4 ≤ mostLater
-    by true = omega arith
-    by false = omega arith
+    by : (counts keeps : Bool) → cond counts 6 (cond keeps 5 4) ≤ mostLater
+    by true keeps = omega arith
+    by false true = omega arith
+    by false false = omega arith
 
 -- LAW: the line of a line's kind and numbers is that line, where the fields that its edition lacks are zero
 pub line-of : LineOf
@@ -47,7 +48,16 @@ line-of l h = by (l .edition) (l .line) h
     by e (L.End t) h =
         let all = allNumbersOf (inEdition e (L.End t)) in
         let same : (i : ℕ) → getD (take (countOf e totals) all) i 0 ≡ getD all i 0 = λ i. as-shown (countOf e totals) all i h in
-        λ j. L.End (record { accepted = same 0 j; refused = same 1 j; register = same 2 j; volume = same 3 j; «kept_seconds» = same 4 j })
+        λ j.
+        L.End
+        (record {
+          accepted = same 0 j;
+          refused = same 1 j;
+          register = same 2 j;
+          volume = same 3 j;
+          «kept_seconds» = same 4 j;
+          «cold_register» = same 5 j;
+        })
 
 -- a line has as many numbers as its kind has in its edition
 pub numbers-counted : (l : EditionLine) → length (numbersOf l) ≡ countOf (l .edition) (kindOf (l .line))

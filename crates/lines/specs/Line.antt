@@ -1,10 +1,10 @@
--- The lines of an archive, document 01, "Archive text", each in its edition (document 02, request 2), and the bytes of each.
+-- The lines of an archive, document 01, "Archive text", each in its edition (document 02, requests 2 and 5), and the bytes of each.
 use Prim.Native.Nat.{ℕ}
 use mathlib.Core.Bool.{cond}
 use mathlib.Core.List.{List, [], _∷_, _++_, map}
 use lib.ListN.{getD, take, drop}
 use Rattle.quantity.specs.Refusals.{Row}
-use Rattle.meter.specs.Edition.{keepsSeconds}
+use Rattle.meter.specs.Edition.{keepsSeconds, countsCold}
 use Rattle.meter.specs.Card.{fieldsOf, cardFields, cardRows}
 use Rattle.meter.specs.declared.card.Card.{Card}
 use Rattle.meter.specs.declared.sample.Sample.{Sample}
@@ -34,16 +34,16 @@ firstField card = letterC ∷ []
 firstField sample = letterS ∷ []
 firstField totals = letterE ∷ []
 
--- how many numbers a line of a kind has after it in an edition: those of E are "accepted, refused, register, volume", and the kept seconds
--- "stand as a fifth field on the E line" in an edition that keeps them
+-- how many numbers a line of a kind has after it in an edition: those of E are "accepted, refused, register, volume"; the kept seconds "stand as
+-- a fifth field on the E line" in an edition that keeps them, and "HEATARCHIVE,3 adds the cold register as a sixth E field"
 unfoldable pub countOf : ℕ → LineKind → ℕ
 countOf e opening = 1
 countOf e card = cardFields
 countOf e sample = 4
-countOf e totals = cond (keepsSeconds e) 5 4
+countOf e totals = cond (countsCold e) 6 (cond (keepsSeconds e) 5 4)
 
 -- The numbers that a line can have, in order: the edition in the opening; "one line C with the card's twelve fields, any count of lines S
--- with a sample's four, one line E with accepted, refused, register, volume", and the kept seconds.
+-- with a sample's four, one line E with accepted, refused, register, volume", the kept seconds and the cold register.
 unfoldable pub allNumbersOf : EditionLine → List ℕ
 allNumbersOf l = by (l .line)
   where
@@ -51,7 +51,7 @@ allNumbersOf l = by (l .line)
     by L.Opening = l .edition ∷ []
     by (L.Card c) = fieldsOf c
     by (L.Sample s) = s .pulses ∷ s .seconds ∷ s .«supply_reading» ∷ s .«return_reading» ∷ []
-    by (L.End t) = t .accepted ∷ t .refused ∷ t .register ∷ t .volume ∷ t .«kept_seconds» ∷ []
+    by (L.End t) = t .accepted ∷ t .refused ∷ t .register ∷ t .volume ∷ t .«kept_seconds» ∷ t .«cold_register» ∷ []
 
 -- those that it has in its edition, and those "in a field that the edition lacks"
 unfoldable pub numbersOf : EditionLine → List ℕ
@@ -87,7 +87,7 @@ contentRows (L.Card c) = cardRows c
 contentRows (L.Sample s) = []
 contentRows (L.End t) = []
 
--- "The first 14 bytes are HEATARCHIVE,1 and a line feed", or HEATARCHIVE,2
+-- "The first 14 bytes are HEATARCHIVE,1 and a line feed", or HEATARCHIVE,2 or HEATARCHIVE,3
 abbrev pub openingLength : ℕ
 openingLength = 14
 
@@ -116,4 +116,12 @@ lineOf card ns = L.Card (cardOf ns)
 lineOf sample ns =
     L.Sample (record { pulses = getD ns 0 0; seconds = getD ns 1 0; «supply_reading» = getD ns 2 0; «return_reading» = getD ns 3 0 })
 lineOf totals ns =
-    L.End (record { accepted = getD ns 0 0; refused = getD ns 1 0; register = getD ns 2 0; volume = getD ns 3 0; «kept_seconds» = getD ns 4 0 })
+    L.End
+    (record {
+      accepted = getD ns 0 0;
+      refused = getD ns 1 0;
+      register = getD ns 2 0;
+      volume = getD ns 3 0;
+      «kept_seconds» = getD ns 4 0;
+      «cold_register» = getD ns 5 0;
+    })

@@ -38,7 +38,7 @@ ValueDecimal = (n : ℕ) → valueOf (decimal n) ≡ n
 
 -- ---- lines
 
--- "The first 14 bytes are HEATARCHIVE,1 and a line feed", or HEATARCHIVE,2: the edition is a digit
+-- "The first 14 bytes are HEATARCHIVE,1 and a line feed", or HEATARCHIVE,2 or HEATARCHIVE,3: the edition is a digit
 abbrev pub OpeningBytes : Type 0
 OpeningBytes = (e : ℕ) → isOtherEdition e ≡ false → bytesOf (openingIn e) ≡ archiveWord ++ (comma ∷ (digitZero + e) ∷ lineFeed ∷ [])
 

@@ -2,13 +2,14 @@
 use meter::Card;
 use meter::Sample;
 
-// What line E carries, in document 01's order: a meter's end state. Every edition's fields stand here; one that an edition lacks is zero.
+// What line E carries, in the papers' order: a meter's end state. Every edition's fields stand here; one that an edition lacks is zero.
 pub struct Totals {
     pub accepted: u64,
     pub refused: u64,
     pub register: u64,
     pub volume: u64,
     pub kept_seconds: u64,
+    pub cold_register: u64,
 }
 
 // A line, by its kind. Any content can stand here.

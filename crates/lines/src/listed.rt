@@ -3,6 +3,7 @@ use crate::line::EditionLine;
 use crate::line::Line;
 use crate::number::width;
 use meter::CARD_FIELDS;
+use meter::counts_cold;
 use meter::keeps_seconds;
 ghost use mathlib.Core.Path.{_≡_};
 ghost use mathlib.Core.List.{map};
@@ -52,7 +53,14 @@ pub(crate) fn numbers_of(what: EditionLine) -> Listed
             4,
         ),
         Line::End(t) => list(
-            &[t.accepted, t.refused, t.register, t.volume, t.kept_seconds],
+            &[
+                t.accepted,
+                t.refused,
+                t.register,
+                t.volume,
+                t.kept_seconds,
+                t.cold_register,
+            ],
             totals_count(edition),
         ),
     }
@@ -62,6 +70,9 @@ pub(crate) fn numbers_of(what: EditionLine) -> Listed
 pub(crate) fn totals_count(edition: u64) -> usize
     ensures { λ r. ⌜ (r ≡ countOf edition totals) × (r ≤ mostLater) ⌝ }
 {
+    if counts_cold(edition) {
+        return 6;
+    }
     if keeps_seconds(edition) { 5 } else { 4 }
 }
 

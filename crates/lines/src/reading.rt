@@ -28,7 +28,7 @@ ghost use Rattle.lines.specs.declared.line.Line.the-variants as L;
 ghost use Rattle.lines.specs.declared.line.MayCome.the-variants as M;
 
 // The most numbers of a line after the card's.
-const MOST_LATER: usize = 5;
+const MOST_LATER: usize = 6;
 
 // What stands at the front of bytes, told what may come. Another edition is met before all else.
 pub fn front_line(bytes: &[u8], may_come: MayCome) -> Front
@@ -151,6 +151,7 @@ fn line_of_later(letter: u8, f: [u64; MOST_LATER]) -> Line
             register: f[2],
             volume: f[3],
             kept_seconds: f[4],
+            cold_register: f[5],
         })
     } else {
         Line::Sample(Sample {

@@ -21,14 +21,17 @@ use Rattle.platinum.specs.declared.reading.Measured.{Measured}
 use Rattle.platinum.specs.declared.reading.Measured.the-variants.{At, Outside, NoSensor}
 use Rattle.platinum.specs.Temperature.{temperatureOf}
 use Rattle.platinum.proofs.Answer.{within-range}
-use Rattle.meter.specs.Edition.{isOtherEdition, keepsSeconds}
+use Rattle.meter.specs.Edition.{isOtherEdition, keepsSeconds, countsCold}
 use Rattle.meter.specs.Card.{cardRows}
 use Rattle.meter.specs.State.{stateRows, largestRegister, largestVolume, largestCount, mostSeconds, passesLimit, misfitsEdition}
 use Rattle.meter.specs.Sample.{volumeOf, supplyOf, returnOf, temperatureOrMissing, ts, tr, sampleHeat}
+use Rattle.meter.specs.Register.{registerOf, ownRegister}
 use Rattle.meter.specs.Step.{countRows, readingRows, isAboveQs, rangeRows, limitRows, keptOf}
 use Rattle.quantity.specs.Fractions.{floored}
-use Rattle.meter.specs.Theorems.{AcceptedHasTemperatures}
+use Rattle.meter.specs.Theorems.{AcceptedHasTemperatures, LackedZero}
 use Rattle.meter.specs.declared.card.Card.{Card}
+use Rattle.meter.specs.declared.register.Register.{Register}
+use Rattle.meter.specs.declared.register.Register.the-variants.{Heat, Cold}
 use Rattle.meter.specs.declared.state.Meter.{Meter}
 use Rattle.meter.specs.declared.sample.Sample.{Sample}
 
@@ -82,21 +85,33 @@ accepted-card c h =
       power = inside _ _ _ (h17 .1 .0);
     }
 
--- a condition on editions that keep no seconds: what it says, where it is false, and when it is
-not-both : (keeps b : Bool) → (not keeps && b) ≡ false → keeps ≡ false → b ≡ false
-not-both keeps b h e = subst (λ (k : Bool). (not k && b) ≡ false) e h
+-- a condition on editions that lack something: what it says, where it is false, and when it is
+not-both : (has b : Bool) → (not has && b) ≡ false → has ≡ false → b ≡ false
+not-both has b h e = subst (λ (k : Bool). (not k && b) ≡ false) e h
 
-pub not-both-if : (keeps b : Bool) → (keeps ≡ false → b ≡ false) → (not keeps && b) ≡ false
+pub not-both-if : (has b : Bool) → (has ≡ false → b ≡ false) → (not has && b) ≡ false
 not-both-if true b h = refl
 not-both-if false b h = h refl
 
 pub record AcceptedState (m : Meter) : Type 0 where
-  pub register : m .register ≤ largestRegister
+  pub registers : (r : Register) → registerOf r m ≤ largestRegister
   pub volume : m .volume ≤ largestVolume
   pub counts : m .accepted + m .refused < largestCount
   pub edition : isOtherEdition (m .edition) ≡ false
   pub kept : m .«kept_seconds» ≤ mostSeconds * m .accepted
-  pub lacks : keepsSeconds (m .edition) ≡ false → m .«kept_seconds» ≡ 0
+  pub lacked : LackedZero (m .edition) m
+
+-- a field that an edition lacks is zero
+lacked-zero : (has : Bool) (n : ℕ) → (not has && ltb 0 n) ≡ false → has ≡ false → n ≡ 0
+lacked-zero has n h k = omega (arith, ltb-false 0 n (not-both has (ltb 0 n) h k))
+
+zero-passes : (has : Bool) (n : ℕ) → (has ≡ false → n ≡ 0) → (not has && ltb 0 n) ≡ false
+zero-passes has n h = not-both-if has (ltb 0 n) (λ k. le-ltb 0 n (omega (arith, h k)))
+
+-- each of the two registers
+each : (P : ℕ → Type 0) (m : Meter) → P (m .register) → P (m .«cold_register») → (r : Register) → P (registerOf r m)
+each P m h g Heat = h
+each P m h g Cold = g
 
 strictly : (a b : ℕ) → a ≤ b → (a ≡ b → ⊥) → a < b
 strictly a b h n = omega arith
@@ -107,29 +122,34 @@ accepted-state m h =
     let h20 = neither (passesLimit m) (misfitsEdition m) (h .0) in
     let other = isOtherEdition (m .edition) in
     let keeps = keepsSeconds (m .edition) in
+    let cold = countsCold (m .edition) in
     let n = m .«kept_seconds» in
-    let fits = neither (other || ltb (mostSeconds * m .accepted) n) (not keeps && ltb 0 n) (h20 .1) in
-    let known = neither other (ltb (mostSeconds * m .accepted) n) (fits .0) in
-    let limits = neither (ltb largestRegister (m .register) || ltb largestVolume (m .volume)) (ltb largestCount (m .accepted + m .refused)) (h20 .0) in
-    let two = neither (ltb largestRegister (m .register)) (ltb largestVolume (m .volume)) (limits .0) in
+    let k = m .«cold_register» in
+    let fits = neither (other || ltb (mostSeconds * m .accepted) n || (not keeps && ltb 0 n)) (not cold && ltb 0 k) (h20 .1) in
+    let seconds = neither (other || ltb (mostSeconds * m .accepted) n) (not keeps && ltb 0 n) (fits .0) in
+    let known = neither other (ltb (mostSeconds * m .accepted) n) (seconds .0) in
+    let limits = neither (ltb largestRegister (m .register) || ltb largestRegister k || ltb largestVolume (m .volume)) (ltb largestCount (m .accepted + m .refused)) (h20 .0) in
+    let amounts = neither (ltb largestRegister (m .register) || ltb largestRegister k) (ltb largestVolume (m .volume)) (limits .0) in
+    let two = neither (ltb largestRegister (m .register)) (ltb largestRegister k) (amounts .0) in
     record {
-      register = ltb-false _ _ (two .0);
-      volume = ltb-false _ _ (two .1);
+      registers = each (λ (x : ℕ). x ≤ largestRegister) m (ltb-false _ _ (two .0)) (ltb-false _ _ (two .1));
+      volume = ltb-false _ _ (amounts .1);
       counts = strictly _ _ (ltb-false _ _ (limits .1)) (eqb-false _ _ (h .1 .0));
       edition = known .0;
       kept = ltb-false _ _ (known .1);
-      lacks = λ k. omega (arith, ltb-false 0 n (not-both keeps (ltb 0 n) (fits .1) k));
+      lacked = record { seconds = lacked-zero keeps n (seconds .1); cold = lacked-zero cold k (fits .1) };
     }
 
--- and edition and kept seconds like these are not refused
-pub fits-edition : (m : Meter) → isOtherEdition (m .edition) ≡ false → m .«kept_seconds» ≤ mostSeconds * m .accepted →
-    (keepsSeconds (m .edition) ≡ false → m .«kept_seconds» ≡ 0) → misfitsEdition m ≡ false
-fits-edition m known most lacks =
+-- and edition, kept seconds and cold register like these are not refused
+pub fits-edition : (m : Meter) → isOtherEdition (m .edition) ≡ false → m .«kept_seconds» ≤ mostSeconds * m .accepted → LackedZero (m .edition) m →
+    misfitsEdition m ≡ false
+fits-edition m known most lacked =
     let n = m .«kept_seconds» in
     simp (
       known,
       le-ltb (mostSeconds * m .accepted) n most,
-      not-both-if (keepsSeconds (m .edition)) (ltb 0 n) (λ k. le-ltb 0 n (omega (arith, lacks k))),
+      zero-passes (keepsSeconds (m .edition)) n (lacked .seconds),
+      zero-passes (countsCold (m .edition)) (m .«cold_register») (lacked .cold),
     )
 
 pub record AcceptedCounts (c : Card) (s : Sample) : Type 0 where
@@ -161,6 +181,11 @@ pub accepted-flow : (e : ℕ) (c : Card) (s : Sample) → NoneApplies (rangeRows
 unfolding rangeRows
 accepted-flow e c s h k = not-both (keepsSeconds e) (isAboveQs c s) (h .1 .1 .1 .1 .1 .0) k
 
+-- and one that counts no cold accepts only samples that are the heat register's own
+pub accepted-order : (e : ℕ) (c : Card) (s : Sample) → NoneApplies (rangeRows e c s) → countsCold e ≡ false → ownRegister c s ≡ Heat
+unfolding rangeRows
+accepted-order e c s h k = rw (not-both (countsCold e) (isColder (ts c s) (tr c s)) (h .1 .1 .0) k) refl
+
 -- it keeps none of one that is not above q_s
 pub kept-none : (c : Card) (s : Sample) → isAboveQs c s ≡ false → keptOf c s ≡ 0
 unfolding keptOf
@@ -176,14 +201,14 @@ kept-at-most c s h = by (isAboveQs c s)
     by false = omega arith
 
 pub record AcceptedLimits (m : Meter) (s : Sample) : Type 0 where
-  pub register : m .register + floored (sampleHeat (m .card) s) ≤ largestRegister
+  pub own : registerOf (ownRegister (m .card) s) m + floored (sampleHeat (m .card) s) ≤ largestRegister
   pub volume : m .volume + volumeOf (m .card) s ≤ largestVolume
 
 pub accepted-limits : (m : Meter) (s : Sample) → NoneApplies (limitRows m s) → AcceptedLimits m s
 unfolding limitRows
 accepted-limits m s h =
     let room = neither _ _ (h .1 .0) in
-    record { register = ltb-false _ _ (room .0); volume = ltb-false _ _ (room .1) }
+    record { own = ltb-false _ _ (room .0); volume = ltb-false _ _ (room .1) }
 
 -- both readings have a temperature: the default of a missing one is never that of an accepted sample
 has-temperature : (p : Position) (x : Measured) → NoneApplies (endRows p x) → (t : Temperature) × (x ≡ At t)

@@ -16,18 +16,24 @@ use Rattle.quantity.proofs.Rows.{none-applies, none-of-parts, orElse, parts, of
 use Rattle.meter.specs.Card.{cardRows}
 use Rattle.meter.specs.State.{freshOf, stateRows, largestRegister, largestVolume, largestCount}
 use Rattle.meter.specs.Step.{cardAndStateRows, countRows, readingRows, rangeRows, limitRows, sampleRows, stepOf}
+use Rattle.quantity.specs.Fractions.{floored}
+use Rattle.meter.specs.Sample.{sampleHeat}
+use Rattle.meter.specs.Register.{ownRegister, addedTo}
 use Rattle.meter.specs.Sum.{Mark}
 use Rattle.meter.specs.Calls.{Calls, none, step}
 use Rattle.meter.specs.declared.card.Card.{Card}
+use Rattle.meter.specs.declared.register.Register.{Register}
+use Rattle.meter.specs.declared.register.Register.the-variants.{Heat, Cold}
 use Rattle.meter.specs.declared.state.Meter.{Meter}
 use Rattle.meter.specs.declared.state.FreshMeter.{FreshMeter}
 use Rattle.meter.specs.declared.sample.Sample.{Sample}
 use Rattle.meter.specs.declared.stepping.Stepped.{Stepped}
-use Rattle.meter.proofs.Accepted.{accepted-state, fits-edition, accepted-counts, accepted-flow, kept-none, kept-at-most, accepted-limits}
+use Rattle.meter.proofs.Accepted.{accepted-state, fits-edition, accepted-counts, accepted-flow, accepted-order, kept-none, kept-at-most, accepted-limits}
+use Rattle.meter.proofs.Registers.{unchanged, empty, room-in-each}
 use Rattle.meter.specs.Answers.{Answers, accepts, refuses-sample, refuses-before}
-use Rattle.meter.specs.Theorems.{WithinLimits, StaysWithinLimits, NoOtherRefusal, countsOf, countedOf, Counted}
+use Rattle.meter.specs.Theorems.{WithinLimits, StaysWithinLimits, LackedZero, LackedStaysZero, NoOtherRefusal, countsOf, countedOf, Counted}
 use Rattle.meter.proofs.Answers.{answered}
-use Rattle.meter.proofs.Theorem.{fresh-zeros}
+use Rattle.meter.proofs.Theorem.{raised, fresh-zeros, edition-along}
 
 -- the counts have room where no row of card or state refuses
 pub room : (m : Meter) → firstOf (cardAndStateRows m) ≡ Accepted → m .accepted + m .refused < largestCount
@@ -36,22 +42,37 @@ room m e = accepted-state m (none-of-parts (cardRows (m .card)) (stateRows m) (n
 pub within-after : (m : Meter) (s : Sample) (a : Stepped) → Answers m s a → WithinLimits m → WithinLimits (a .meter)
 within-after m s a (accepts h) g =
     let limits = accepted-limits m s (h .limit) in
+    let own = ownRegister (m .card) s in
+    let heat = floored (sampleHeat (m .card) s) in
     let counts = accepted-state m (h .state) .counts in
     let most = kept-at-most (m .card) s (accepted-counts (m .card) s (h .count)) in
     record {
       card = g .card;
-      register = limits .register;
+      registers = λ r. subst (λ (x : ℕ). x ≤ largestRegister) (sym (raised r m s)) (room-in-each r own m heat (g .registers) (limits .own));
       volume = limits .volume;
       counts = omega arith;
       edition = g .edition;
       kept = omega (arith, g .kept);
-      lacks = λ k.
-          let none-more = kept-none (m .card) s (accepted-flow (m .edition) (m .card) s (h .range) k) in
-          omega (arith, g .lacks k);
+      lacked = record {
+        seconds = λ k.
+            let none-more = kept-none (m .card) s (accepted-flow (m .edition) (m .card) s (h .range) k) in
+            omega (arith, g .lacked .seconds k);
+        cold = λ k.
+            let none-more = ap (λ (r : Register). addedTo Cold r heat) (accepted-order (m .edition) (m .card) s (h .range) k) in
+            omega (arith, g .lacked .cold k, none-more);
+      };
     }
 within-after m s a (refuses-sample n e f) g =
     let counts = room m e in
-    record { card = g .card; register = g .register; volume = g .volume; counts = omega arith; edition = g .edition; kept = g .kept; lacks = g .lacks }
+    record {
+      card = g .card;
+      registers = λ r. subst (λ (x : ℕ). x ≤ largestRegister) (sym (unchanged r m)) (g .registers r);
+      volume = g .volume;
+      counts = omega arith;
+      edition = g .edition;
+      kept = g .kept;
+      lacked = record { seconds = g .lacked .seconds; cold = g .lacked .cold };
+    }
 within-after m s a (refuses-before n e) g = g
 
 pub within-along : {m z : Meter} {ks : List Mark} → WithinLimits m → Calls m ks z → WithinLimits z
@@ -65,27 +86,34 @@ fresh-within c e m h =
     subst WithinLimits (f .meter)
     (record {
       card = f .card;
-      register = omega arith;
+      registers = λ r. omega (arith, empty r c e);
       volume = omega arith;
       counts = omega arith;
       edition = f .edition;
       kept = omega arith;
-      lacks = λ k. refl;
+      lacked = record { seconds = λ k. refl; cold = λ k. refl };
     })
 
--- register, volume and kept seconds never pass their limits from a fresh meter
+-- registers, volume and kept seconds never pass their limits from a fresh meter
 pub stays-within-limits : StaysWithinLimits
 stays-within-limits c e m h ks z calls = within-along (fresh-within c e m h) calls
 
+-- and what its edition lacks stays zero
+pub lacked-stays-zero : LackedStaysZero
+lacked-stays-zero c e m h ks z calls =
+    let same : z .edition ≡ e = edition-along m ks z calls ∙ sym (ap (λ (x : Meter). x .edition) (fresh-zeros c e m h .meter)) in
+    subst (λ (x : ℕ). LackedZero x z) same (stays-within-limits c e m h ks z calls .lacked)
+
 -- of the rows of card and state only 21 can refuse such a meter
-by-state : (m : Meter) → WithinLimits m → firstOf (stateRows m) ≡ cond (eqb (m .accepted + m .refused) largestCount) (Refused 21) Accepted
+pub by-state : (m : Meter) → WithinLimits m → firstOf (stateRows m) ≡ cond (eqb (m .accepted + m .refused) largestCount) (Refused 21) Accepted
 unfolding stateRows firstOf
 by-state m g =
     simp (
-      le-ltb largestRegister (m .register) (g .register),
+      le-ltb largestRegister (m .register) (g .registers Heat),
+      le-ltb largestRegister (m .«cold_register») (g .registers Cold),
       le-ltb largestVolume (m .volume) (g .volume),
       le-ltb largestCount (m .accepted + m .refused) (g .counts),
-      fits-edition m (g .edition) (g .kept) (g .lacks),
+      fits-edition m (g .edition) (g .kept) (g .lacked),
     )
 
 is-21 : (b : Bool) (n : ℕ) → cond b (Refused 21) Accepted ≡ Refused n → (n ≡ 21) × (b ≡ true)

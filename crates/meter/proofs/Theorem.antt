@@ -2,9 +2,9 @@
 -- Assumes nothing.
 use mathlib.Core.Path.{_≡_, refl, sym, _∙_, ap, subst}
 use mathlib.Core.List.{List, [], _∷_}
-use mathlib.Core.Bool.{cond, _&&_}
+use mathlib.Core.Bool.{Bool, true, false, cond, _&&_}
 use Prim.Native.Nat.{ℕ, _+_, _*_, _≤_, _<_}
-use native.Mathlib.Nat.{le-div-iff-mul-le}
+use native.Mathlib.Nat.{add-zero, le-div-iff-mul-le}
 use native.Mathlib.Omega.{arith}
 use lib.Dec.{ltb}
 use borrow.Author.Tests.{ltb-true, ltb-false}
@@ -16,7 +16,7 @@ use Rattle.water.specs.Table.{water}
 use Rattle.water.specs.Heat.{exactHeat}
 use Rattle.quantity.specs.Units.{lastHundredth}
 use Rattle.quantity.specs.declared.units.Temperature.{Temperature}
-use Rattle.quantity.specs.Fractions.{IsFraction, plus}
+use Rattle.quantity.specs.Fractions.{IsFraction, plus, floored}
 use Rattle.quantity.specs.declared.fraction.Fraction.{Fraction}
 use Rattle.water.proofs.Bounds.{water-bounded}
 use Rattle.water.proofs.ExactHeats.{heat-is-fraction, no-volume-no-heat, at-least-2000, of-either-order}
@@ -24,17 +24,22 @@ use Rattle.meter.specs.Edition.{isOtherEdition}
 use Rattle.meter.specs.Card.{cardRows}
 use Rattle.meter.specs.State.{freshRows, freshOf, freshAnswer, zeros}
 use Rattle.meter.specs.Sample.{volumeOf, hasVolume, ts, tr, sampleHeat}
-use Rattle.meter.specs.Sum.{Mark, heatSamples, nothing, sumFrom, allowanceFrom, WithinBounds}
+use Rattle.meter.specs.Register.{registerOf, ownRegister, isSame}
+use Rattle.meter.specs.Step.{addedBy, accepting, stepOf}
+use Rattle.meter.specs.Sum.{Mark, isOwn, nothing, sumFrom, allowanceFrom, WithinBounds}
 use Rattle.meter.specs.Calls.{Calls, none, step, markOf}
 use Rattle.meter.specs.Answers.{NoRowRefuses, Answers, accepts, refuses-sample, refuses-before}
-use Rattle.meter.specs.Theorems.{RegisterBounds, FreshMade, FreshZeros, CardAlong, EditionAlong, SampleHeatIsFraction, Raises}
+use Rattle.meter.specs.Theorems.{RegisterBounds, FreshMade, FreshZeros, CardAlong, EditionAlong, SampleHeatIsFraction, Raises, OtherStays}
 use Rattle.meter.specs.declared.card.Card.{Card}
 use Rattle.meter.specs.declared.state.Meter.{Meter}
 use Rattle.meter.specs.declared.state.FreshMeter.{FreshMeter}
+use Rattle.meter.specs.declared.register.Register.{Register}
+use Rattle.meter.specs.declared.register.Register.the-variants.{Heat, Cold}
 use Rattle.meter.specs.declared.sample.Sample.{Sample}
 use Rattle.meter.specs.declared.stepping.Stepped.{Stepped}
 use Rattle.meter.proofs.Keeping.{HeatBounds, start, keep}
-use Rattle.meter.proofs.Answers.{answered, not-refused, accepted-exactly}
+use Rattle.meter.proofs.Answers.{answered, step-answers, not-refused, accepted-exactly}
+use Rattle.meter.proofs.Registers.{same, unchanged, empty}
 use Rattle.meter.proofs.Accepted.{accepted-card, accepted-pair, temperature-at-most}
 
 -- the exact heat's lower number is above zero, also where a sample has no temperature
@@ -65,17 +70,29 @@ heat-bounds m s h =
     (λ e. between _ _ _ _ (omega (arith, pair .colder e)) (temperature-at-most _ _))
     (λ e. between _ _ _ _ (omega (arith, pair .not-colder e)) (temperature-at-most _ _))
 
--- the bounds after one call more
-abbrev After : Card → Sample → Stepped → ℕ → Fraction → Type 0
-After c s a n sum =
-    let r = heatSamples c in
-    let k = markOf s a in
-    WithinBounds (a .meter .register) (cond (r .own k && r .has-volume s) (n + 1) n) (cond (r .own k) (plus sum (r .heat s)) sum)
+-- what an accepted sample leaves in a register
+pub raised : (r : Register) (m : Meter) (s : Sample) → registerOf r (accepting m s) ≡ registerOf r m + addedBy r (m .card) s
+raised Heat m s = refl
+raised Cold m s = refl
 
-one : (m : Meter) (s : Sample) (a : Stepped) (n : ℕ) (sum : Fraction) → Answers m s a → WithinBounds (m .register) n sum → After (m .card) s a n sum
-one m s a n sum (accepts h) b = keep _ _ _ _ _ (heat-bounds m s h) b
-one m s a n sum (refuses-sample x e f) b = b
-one m s a n sum (refuses-before x e) b = b
+-- the bounds of a register after a sample that is its own or not
+abbrev After : Bool → ℕ → ℕ → Fraction → Card → Sample → Type 0
+After own register n sum c s = WithinBounds register (cond (own && hasVolume c s) (n + 1) n) (cond own (plus sum (sampleHeat c s)) sum)
+
+-- are kept by an accepted sample, which raises its own register by its floored heat and the other by nothing
+taken : (own : Bool) (register n : ℕ) (sum : Fraction) (c : Card) (s : Sample) → HeatBounds (hasVolume c s) (sampleHeat c s) → WithinBounds register n sum →
+    After own (register + cond own (floored (sampleHeat c s)) 0) n sum c s
+taken true register n sum c s w b = keep _ _ _ _ _ w b
+taken false register n sum c s w b = subst (λ (x : ℕ). WithinBounds x n sum) (sym (add-zero register)) b
+
+-- and by any call
+one : (r : Register) (m : Meter) (s : Sample) (a : Stepped) (n : ℕ) (sum : Fraction) → Answers m s a → WithinBounds (registerOf r m) n sum →
+    After (isOwn r (m .card) (markOf s a)) (registerOf r (a .meter)) n sum (m .card) s
+one r m s a n sum (accepts h) b =
+    let own = isSame r (ownRegister (m .card) s) in
+    subst (λ (x : ℕ). After own x n sum (m .card) s) (sym (raised r m s)) (taken own _ _ _ _ _ (heat-bounds m s h) b)
+one r m s a n sum (refuses-sample x e f) b = subst (λ (y : ℕ). WithinBounds y n sum) (sym (unchanged r m)) b
+one r m s a n sum (refuses-before x e) b = b
 
 -- card and edition stay the same
 pub record Stays (m z : Meter) : Type 0 where
@@ -88,12 +105,13 @@ stays-after m s a (accepts h) = record { card = refl; edition = refl }
 stays-after m s a (refuses-sample x e f) = record { card = refl; edition = refl }
 stays-after m s a (refuses-before x e) = record { card = refl; edition = refl }
 
-from : {m z : Meter} {ks : List Mark} (c : Card) (n : ℕ) (sum : Fraction) → m .card ≡ c → WithinBounds (m .register) n sum → Calls m ks z →
-    WithinBounds (z .register) (allowanceFrom (heatSamples c) n ks) (sumFrom (heatSamples c) sum ks)
-from c n sum e b none = b
-from c n sum e b (step {m = m} s a p rest) =
+from : (r : Register) {m z : Meter} {ks : List Mark} (c : Card) (n : ℕ) (sum : Fraction) → m .card ≡ c → WithinBounds (registerOf r m) n sum → Calls m ks z →
+    WithinBounds (registerOf r z) (allowanceFrom r c n ks) (sumFrom r c sum ks)
+from r c n sum e b none = b
+from r c n sum e b (step {m = m} s a p rest) =
     let h = answered m s a p in
-    from c _ _ (stays-after m s a h .card ∙ e) (subst (λ (x : Card). After x s a n sum) e (one m s a n sum h b)) rest
+    let after = subst (λ (x : Card). After (isOwn r x (markOf s a)) (registerOf r (a .meter)) n sum x s) e (one r m s a n sum h b) in
+    from r c _ _ (stays-after m s a h .card ∙ e) after rest
 
 -- and so along the calls
 stays-along : {m z : Meter} {ks : List Mark} → Calls m ks z → Stays m z
@@ -130,16 +148,30 @@ fresh-made c e h known =
     ap (λ (o : Outcome). freshAnswer o (zeros c e)) (no-refusal (freshRows c e) none-refuses)
 
 pub register : RegisterBounds
-register c e m h ks z calls =
+register c e m h ks z calls r =
     let m-is = fresh-zeros c e m h .meter in
-    from c 0 nothing (sym (ap (λ (x : Meter). x .card) m-is)) (subst (λ (x : Meter). WithinBounds (x .register) 0 nothing) m-is start) calls
+    let begun = subst (λ (x : ℕ). WithinBounds x 0 nothing) (sym (empty r c e)) start in
+    from r c 0 nothing (sym (ap (λ (x : Meter). x .card) m-is)) (subst (λ (x : Meter). WithinBounds (registerOf r x) 0 nothing) m-is begun) calls
 
--- an accepted sample with a volume raises the register
+-- an accepted sample with a volume raises its own register
 pub raises : Raises
 raises m s e v =
     let none-refuses = accepted-exactly m s .0 e in
     let w = heat-bounds m s none-refuses in
     let h = sampleHeat (m .card) s in
+    let own = ownRegister (m .card) s in
     let least : 2000 * h .denominator ≤ h .numerator = omega (arith, w .least v) in
     let at-least = le-div-iff-mul-le (w .is-fraction) .1 least in
-    subst (λ (a : Stepped). m .register < a .meter .register) (sym (not-refused m s none-refuses)) (omega (arith, at-least))
+    let all = ap (λ (b : Bool). cond b (floored h) 0) (same own) in
+    subst (λ (a : Stepped). registerOf own m < registerOf own (a .meter)) (sym (not-refused m s none-refuses))
+    (subst (λ (x : ℕ). registerOf own m < x) (sym (raised own m s)) (omega (arith, at-least, all)))
+
+-- and no sample changes the other
+other-after : (m : Meter) (s : Sample) (a : Stepped) (other : Register) → Answers m s a → isSame other (ownRegister (m .card) s) ≡ false →
+    registerOf other (a .meter) ≡ registerOf other m
+other-after m s a other (accepts h) e = raised other m s ∙ ap (λ (b : Bool). registerOf other m + cond b (floored (sampleHeat (m .card) s)) 0) e ∙ add-zero _
+other-after m s a other (refuses-sample n f g) e = unchanged other m
+other-after m s a other (refuses-before n f) e = refl
+
+pub other-stays : OtherStays
+other-stays m s other e = other-after m s (stepOf m s) other (step-answers m s) e

@@ -3,6 +3,7 @@ pub mod Edition
 pub mod Card
 pub mod State
 pub mod Sample
+pub mod Register
 pub mod Step
 pub mod Sum
 pub mod Calls

@@ -1,5 +1,6 @@
 -- A sample's volume, temperatures and exact heat, document 01, "Meter's step": "A sample is pulses, seconds, supply reading, return
--- reading. Volume u = pulses × mL per pulse. Its exact heat in mJ is 1000000×u×(H(ts)−H(tr))/V, V at the card's place."
+-- reading. Volume u = pulses × mL per pulse. Its exact heat in mJ is 1000000×u×(H(ts)−H(tr))/V, V at the card's place." Where ts is below tr it
+-- is the exact cold, "the heat formula with the two enthalpies exchanged" (document 02, request 5).
 use Prim.Native.Nat.{ℕ, _*_}
 use mathlib.Core.Bool.{Bool}
 use lib.Dec.{ltb}
@@ -44,6 +45,6 @@ ts c s = temperatureOrMissing (supplyOf c s)
 abbrev pub tr : Card → Sample → Temperature
 tr c s = temperatureOrMissing (returnOf c s)
 
--- the exact heat: the step takes its floor, and the sum of demand 3 the fraction
+-- the exact heat, or cold: the step takes its floor, and the sum of demand 3 the fraction
 unfoldable pub sampleHeat : Card → Sample → Fraction
 sampleHeat c s = pairHeat water (volumeOf c s) (ts c s) (tr c s) (c .place)

@@ -2,38 +2,59 @@
 -- `RegisterBounds`).
 use mathlib.Core.Path.{_≡_}
 use mathlib.Core.List.{List, [], _∷_}
-use mathlib.Core.Bool.{true, false, cond}
+use mathlib.Core.Bool.{true, false, not, cond, _&&_}
 use mathlib.Core.Logic.{_↔_, _⊎_}
 use Prim.Native.Nat.{ℕ, _+_, _*_, _≤_, _<_}
 use lib.Dec.{eqb}
 use Rattle.quantity.specs.Fractions.{IsFraction}
+use Rattle.quantity.specs.Units.{isColder}
 use Rattle.quantity.specs.Refusals.{firstOf, NoneApplies}
 use Rattle.quantity.specs.declared.units.Temperature.{Temperature}
 use Rattle.quantity.specs.declared.refusal.Outcome.{Outcome}
 use Rattle.quantity.specs.declared.refusal.Outcome.the-variants.{Accepted, Refused}
 use Rattle.platinum.specs.declared.reading.Measured.the-variants.{At}
-use Rattle.meter.specs.Edition.{isOtherEdition, keepsSeconds}
+use Rattle.meter.specs.Edition.{isOtherEdition, keepsSeconds, countsCold}
 use Rattle.meter.specs.Card.{cardRows}
 use Rattle.meter.specs.State.{freshOf, zeros, largestRegister, largestVolume, largestCount, mostSeconds}
-use Rattle.meter.specs.Sample.{hasVolume, supplyOf, returnOf, sampleHeat}
+use Rattle.meter.specs.Sample.{hasVolume, supplyOf, returnOf, ts, tr, sampleHeat}
+use Rattle.meter.specs.Register.{registerOf, ownRegister, isSame}
 use Rattle.meter.specs.Step.{readingRows, isAboveQs, keptOf, stepOf}
-use Rattle.meter.specs.Sum.{Mark, heatSamples, sumOf, allowanceOf, WithinBounds}
+use Rattle.meter.specs.Sum.{Mark, isOwn, nothing, sumOf, allowanceOf, WithinBounds}
 use Rattle.meter.specs.Calls.{Calls, none, step, isAccepted}
 use Rattle.meter.specs.Run.{samplesOf, marksOf, lastOf}
 use Rattle.meter.specs.Answers.{NoRowRefuses, Answers}
 use Rattle.meter.specs.declared.card.Card.{Card}
 use Rattle.meter.specs.declared.state.Meter.{Meter}
 use Rattle.meter.specs.declared.state.FreshMeter.{FreshMeter}
+use Rattle.meter.specs.declared.register.Register.{Register}
+use Rattle.meter.specs.declared.register.Register.the-variants.{Heat}
 use Rattle.meter.specs.declared.sample.Sample.{Sample}
+use Rattle.meter.specs.declared.stepping.Stepped.{Stepped}
 
--- Demand 3, the register: for every accepted card, every edition and every list of step calls from the fresh meter, refused ones included: with
--- the sum of the accepted samples' heat in exact fractions, the register is not above the sum, not below it by more than 1 mJ for each
--- accepted sample with a volume, and not below it by more than a two-thousandth of the sum. It "holds for fresh meters of either edition, with
--- one argument for both" (document 02, request 2).
+-- Demand 3, the register: for every accepted card, every edition and every list of step calls from the fresh meter, refused ones included, and
+-- for each register: with the sum of its own samples' heat in exact fractions, the register is not above the sum, not below it by more than 1 mJ
+-- for each own sample with a volume, and not below it by more than a two-thousandth of the sum. It "holds for fresh meters of either edition,
+-- with one argument for both" (document 02, request 2); "each register is compared with the exact sum of its own samples, and each shortfall
+-- has its own two bounds, the millijoules counting its own samples only" (request 5).
 abbrev pub RegisterBounds : Type 0
 RegisterBounds =
-    (c : Card) (e : ℕ) (m : Meter) → freshOf c e ≡ FreshMeter.Made m → (ks : List Mark) (z : Meter) → Calls m ks z →
-    WithinBounds (z .register) (allowanceOf (heatSamples c) ks) (sumOf (heatSamples c) ks)
+    (c : Card) (e : ℕ) (m : Meter) → freshOf c e ≡ FreshMeter.Made m → (ks : List Mark) (z : Meter) → Calls m ks z → (r : Register) →
+    WithinBounds (registerOf r z) (allowanceOf r c ks) (sumOf r c ks)
+
+-- every accepted sample is exactly one register's own
+abbrev pub OwnExactly : Type 0
+OwnExactly = (r : Register) (c : Card) (k : Mark) → k .accepted ≡ true → (isOwn r c k ≡ true) ↔ (r ≡ ownRegister c (k .sample))
+
+-- every accepted sample of a list is this register's own
+abbrev pub AllOwn : Register → Card → List Mark → Type 0
+AllOwn r c [] = Unit {0}
+AllOwn r c (k ∷ ks) = (k .accepted ≡ true → isOwn r c k ≡ true) × AllOwn r c ks
+
+-- then the other register's sum is 0, and its allowed millijoules are 0
+abbrev pub OtherNothing : Type 0
+OtherNothing =
+    (r other : Register) (c : Card) (ks : List Mark) → isSame other r ≡ false → AllOwn r c ks →
+    (sumOf other c ks ≡ nothing) × (allowanceOf other c ks ≡ 0)
 
 -- It speaks of every list of samples: such calls exist, leave marks of these samples, and their marks and their last meter are the only ones.
 abbrev pub CallsExist : Type 0
@@ -79,11 +100,18 @@ pub record HasTemperatures (c : Card) (s : Sample) : Type 0 where
 abbrev pub AcceptedHasTemperatures : Type 0
 AcceptedHasTemperatures = (c : Card) (s : Sample) → NoneApplies (readingRows c s) → HasTemperatures c s
 
--- an accepted sample with a volume raises the register
+-- an accepted sample with a volume raises its own register
 abbrev pub Raises : Type 0
 Raises =
     (m : Meter) (s : Sample) → isAccepted (stepOf m s .outcome) ≡ true → hasVolume (m .card) s ≡ true →
-    m .register < stepOf m s .meter .register
+    let own = ownRegister (m .card) s in
+    registerOf own m < registerOf own (stepOf m s .meter)
+
+-- and no sample changes the other
+abbrev pub OtherStays : Type 0
+OtherStays =
+    (m : Meter) (s : Sample) (other : Register) → isSame other (ownRegister (m .card) s) ≡ false →
+    registerOf other (stepOf m s .meter) ≡ registerOf other m
 
 -- every answer of the step is one of the cases of specs/Answers.antt, and a sample is accepted exactly when no row refuses it
 abbrev pub StepAnswers : Type 0
@@ -92,21 +120,31 @@ StepAnswers = (m : Meter) (s : Sample) → Answers m s (stepOf m s)
 abbrev pub AcceptedExactly : Type 0
 AcceptedExactly = (m : Meter) (s : Sample) → (isAccepted (stepOf m s .outcome) ≡ true) ↔ NoRowRefuses m s
 
+-- what an edition lacks is zero: the kept seconds in edition 1, the cold register in editions 1 and 2
+pub record LackedZero (e : ℕ) (m : Meter) : Type 0 where
+  pub seconds : keepsSeconds e ≡ false → m .«kept_seconds» ≡ 0
+  pub cold : countsCold e ≡ false → m .«cold_register» ≡ 0
+
 -- a meter whose card is accepted and that row 20 does not refuse
 pub record WithinLimits (m : Meter) : Type 0 where
   pub card : firstOf (cardRows (m .card)) ≡ Accepted
-  pub register : m .register ≤ largestRegister
+  pub registers : (r : Register) → registerOf r m ≤ largestRegister
   pub volume : m .volume ≤ largestVolume
   pub counts : m .accepted + m .refused ≤ largestCount
   pub edition : isOtherEdition (m .edition) ≡ false
   pub kept : m .«kept_seconds» ≤ mostSeconds * m .accepted
-  pub lacks : keepsSeconds (m .edition) ≡ false → m .«kept_seconds» ≡ 0
+  pub lacked : LackedZero (m .edition) m
 
--- register and volume never pass their limits along the calls from a fresh meter, and the kept seconds never exceed 3600 times the accepted
--- count, nor zero in edition 1
+-- registers and volume never pass their limits along the calls from a fresh meter, and the kept seconds never exceed 3600 times the accepted
+-- count
 abbrev pub StaysWithinLimits : Type 0
 StaysWithinLimits =
     (c : Card) (e : ℕ) (m : Meter) → freshOf c e ≡ FreshMeter.Made m → (ks : List Mark) (z : Meter) → Calls m ks z → WithinLimits z
+
+-- and what an edition lacks stays zero along the calls from its fresh meter
+abbrev pub LackedStaysZero : Type 0
+LackedStaysZero =
+    (c : Card) (e : ℕ) (m : Meter) → freshOf c e ≡ FreshMeter.Made m → (ks : List Mark) (z : Meter) → Calls m ks z → LackedZero e z
 
 -- so after any calls from a fresh meter the step refuses with 21 or with a number from 30 on, which only the sample's rows have
 abbrev pub NoOtherRefusal : Type 0
@@ -134,6 +172,11 @@ abbrev pub AcceptedWithinQs : Type 0
 AcceptedWithinQs =
     (m : Meter) (s : Sample) → isAccepted (stepOf m s .outcome) ≡ true → keepsSeconds (m .edition) ≡ false → isAboveQs (m .card) s ≡ false
 
+-- and one that counts no cold accepts only the heat register's own
+abbrev pub AcceptedHeat : Type 0
+AcceptedHeat =
+    (m : Meter) (s : Sample) → isAccepted (stepOf m s .outcome) ≡ true → countsCold (m .edition) ≡ false → ownRegister (m .card) s ≡ Heat
+
 -- the seconds of the accepted samples above q_s
 abbrev pub keptIn : Card → List Mark → ℕ
 keptIn c [] = 0
@@ -144,14 +187,9 @@ abbrev pub KeptSeconds : Type 0
 KeptSeconds =
     (c : Card) (e : ℕ) (m : Meter) → freshOf c e ≡ FreshMeter.Made m → (ks : List Mark) (z : Meter) → Calls m ks z → z .«kept_seconds» ≡ keptIn c ks
 
--- no sample flows above q_s
-abbrev pub AllWithinQs : Card → List Sample → Type 0
-AllWithinQs c [] = Unit {0}
-AllWithinQs c (s ∷ ss) = (isAboveQs c s ≡ false) × AllWithinQs c ss
-
--- a meter's state under another edition's number
-abbrev pub withEdition : ℕ → Meter → Meter
-withEdition e m = record {
+-- a meter's state under an edition's number, with this in the cold register
+abbrev pub inEdition : ℕ → ℕ → Meter → Meter
+inEdition e cold m = record {
   card = m .card;
   edition = e;
   register = m .register;
@@ -159,13 +197,39 @@ withEdition e m = record {
   accepted = m .accepted;
   refused = m .refused;
   «kept_seconds» = m .«kept_seconds»;
+  «cold_register» = cold;
 }
 
--- where no sample flows above q_s, a run in one edition answers each sample and ends as in another, but for its edition
+-- an answer, its meter changed so
+abbrev pub changed : (Meter → Meter) → Stepped → Stepped
+changed f a = record { meter = f (a .meter); outcome = a .outcome }
+
+-- "Samples with supply at or above return get the answers of edition 2": any meter of edition 3 whose cold register keeps its limit answers such
+-- a sample as the meter of edition 2 that has the same other fields and no cold, and its cold register stays as it was
+abbrev pub HeatAsInEdition2 : Type 0
+HeatAsInEdition2 =
+    (m : Meter) (cold : ℕ) (s : Sample) → cold ≤ largestRegister → isColder (ts (m .card) s) (tr (m .card) s) ≡ false →
+    stepOf (inEdition 3 cold m) s ≡ changed (inEdition 3 cold) (stepOf (inEdition 2 0 m) s)
+
+-- a meter's state under another edition's number
+abbrev pub withEdition : ℕ → Meter → Meter
+withEdition e m = inEdition e (m .«cold_register») m
+
+-- two editions take a sample alike: each of the rows 36 and 39 refuses it in both or in neither
+pub record TakenAlike (e f : ℕ) (c : Card) (s : Sample) : Type 0 where
+  pub order : (not (countsCold e) && isColder (ts c s) (tr c s)) ≡ (not (countsCold f) && isColder (ts c s) (tr c s))
+  pub flow : (not (keepsSeconds e) && isAboveQs c s) ≡ (not (keepsSeconds f) && isAboveQs c s)
+
+abbrev pub AllTakenAlike : ℕ → ℕ → Card → List Sample → Type 0
+AllTakenAlike e f c [] = Unit {0}
+AllTakenAlike e f c (s ∷ ss) = TakenAlike e f c s × AllTakenAlike e f c ss
+
+-- where every sample is, a run in one edition answers each sample and ends as in the other, but for its edition
 pub record SameRun (c : Card) (e f : ℕ) (ss : List Sample) : Type 0 where
   pub marks : marksOf (zeros c e) ss ≡ marksOf (zeros c f) ss
   pub last : withEdition f (lastOf (zeros c e) ss) ≡ lastOf (zeros c f) ss
 
 abbrev pub EditionsAgree : Type 0
 EditionsAgree =
-    (c : Card) (e f : ℕ) (ss : List Sample) → isOtherEdition e ≡ false → isOtherEdition f ≡ false → AllWithinQs c ss → SameRun c e f ss
+    (c : Card) (e f : ℕ) (ss : List Sample) → isOtherEdition e ≡ false → isOtherEdition f ≡ false → firstOf (cardRows c) ≡ Accepted →
+    AllTakenAlike e f c ss → SameRun c e f ss

@@ -1,6 +1,7 @@
 // A sample and the rows that refuse it by itself, by the meter's card and edition, whatever its totals (document 01, "Meter's step" and the
-// row "Sample"; document 02, request 2).
+// row "Sample"; document 02, requests 2 and 5).
 use crate::card::Card;
+use crate::edition::counts_cold;
 use crate::edition::keeps_seconds;
 use crate::state::MOST_SECONDS;
 use platinum::Measured;
@@ -17,7 +18,8 @@ ghost use lib.Dec.{ltb};
 ghost use Rattle.quantity.specs.Refusals.{firstOf, NoneApplies};
 ghost use Rattle.quantity.specs.declared.range.Position.the-variants.{Supply, Return};
 ghost use Rattle.platinum.specs.Refusal.{endRows};
-ghost use Rattle.meter.specs.Edition.{keepsSeconds};
+ghost use Rattle.quantity.specs.Units.{isColder};
+ghost use Rattle.meter.specs.Edition.{keepsSeconds, countsCold};
 ghost use Rattle.meter.specs.Card.{cardRows};
 ghost use Rattle.meter.specs.Sample.{temperatureOrMissing};
 ghost use Rattle.meter.specs.Step.{outsideTheta, countRows, isAboveQs, rangeRows, keptOf};
@@ -90,10 +92,17 @@ pub(crate) fn range_refusal(
     let largest = Difference::of_kelvins(card.delta_max as u32);
     let r = Outcome::Accepted.or_row(is_outside_theta(card, supply), 34);
     let r = r.or_row(is_outside_theta(card, returned), 35);
-    let r = r.or_row(supply.is_below(returned), 36);
+    let r = r.or_row(is_order_refused(edition, supply, returned), 36);
     let r = r.or_row(difference.is_below(least), 37);
     let r = r.or_row(largest.is_below(difference), 38);
     r.or_row(is_flow_refused(edition, card, s, volume), 39)
+}
+
+// A supply temperature below that of the return is refused in an edition that does not count cold.
+fn is_order_refused(edition: u64, supply: Temperature, returned: Temperature) -> bool
+    ensures { λ r. ⌜ r ≡ (not (countsCold edition) && isColder supply returned) ⌝ }
+{
+    !counts_cold(edition) & supply.is_below(returned)
 }
 
 // Flow above q_s is refused in an edition that does not keep the seconds of such a sample.

@@ -1,5 +1,6 @@
-// The state of a meter (document 01, "Card"; document 02, request 2), its fresh start and its refusals.
+// The state of a meter (document 01, "Card"; document 02, requests 2 and 5), its fresh start and its refusals.
 use crate::card::Card;
+use crate::edition::counts_cold;
 use crate::edition::is_other_edition;
 use crate::edition::keeps_seconds;
 use quantity::Outcome;
@@ -8,7 +9,7 @@ ghost use mathlib.Core.Path.{_≡_};
 ghost use Prim.Native.Nat.{_+_, min};
 ghost use Rattle.quantity.specs.Refusals.{firstOf};
 ghost use Rattle.meter.specs.Step.{cardAndStateRows};
-ghost use mathlib.Core.Bool.{_||_};
+ghost use mathlib.Core.Bool.{not, _&&_, _||_};
 ghost use lib.Dec.{ltb};
 ghost use Rattle.meter.specs.State.{freshRows, freshOf, stateRows, largestRegister, largestVolume, largestCount, misfitsEdition};
 
@@ -22,8 +23,9 @@ pub(crate) const LARGEST_COUNT: u64 = 1000000000000;
 // The most seconds of a sample (row 30), and so the most that are kept for each accepted one (row 20).
 pub(crate) const MOST_SECONDS: u64 = 3600;
 
-// A meter: its card, its edition, the heat register in mJ, the volume in mL, how many samples were accepted and refused, and the seconds
-// of the accepted ones that flowed above q_s. Any content can stand here; the step refuses a card or a state that a row from 10 to 21 meets.
+// A meter: its card, its edition, the heat register in mJ, the volume in mL, how many samples were accepted and refused, the seconds of
+// the accepted ones that flowed above q_s, and the cold register in mJ. Any content can stand here; the step refuses a card or a state that
+// a row from 10 to 21 meets.
 pub struct Meter {
     pub card: Card,
     pub edition: u64,
@@ -32,6 +34,7 @@ pub struct Meter {
     pub accepted: u64,
     pub refused: u64,
     pub kept_seconds: u64,
+    pub cold_register: u64,
 }
 
 // A fresh meter, or the refusal of its card or its edition.
@@ -54,6 +57,7 @@ pub fn fresh(card: Card, edition: u64) -> FreshMeter
             accepted: 0,
             refused: 0,
             kept_seconds: 0,
+            cold_register: 0,
         }),
         Outcome::Refused(number) => FreshMeter::Refused(number),
     }
@@ -93,15 +97,16 @@ fn state_refusal(m: Meter) -> Outcome
 
 // Whether row 20 meets the meter, its two counts being count together.
 fn is_state_refused(m: Meter, count: u64) -> bool
-    ensures { λ r. ⌜ r ≡ ((ltb largestRegister (m .register) || ltb largestVolume (m .volume) || ltb largestCount count) || misfitsEdition m) ⌝ }
+    ensures { λ r. ⌜ r ≡ ((ltb largestRegister (m .register) || ltb largestRegister (m .«cold_register») || ltb largestVolume (m .volume) || ltb largestCount count) || misfitsEdition m) ⌝ }
 {
-    if passes_a_limit(m.register, m.volume, count) {
+    if passes_a_limit(m, count) {
         return true;
     }
     misfits_edition(m)
 }
 
-// Another edition, or kept seconds that cannot be. Their limit is compared in full: the product can pass 64 bits.
+// Another edition, kept seconds that cannot be, or a number in a field that the edition lacks. The limit of the kept seconds is compared in
+// full: the product can pass 64 bits.
 fn misfits_edition(m: Meter) -> bool
     ensures { λ r. ⌜ r ≡ misfitsEdition m ⌝ }
 {
@@ -113,19 +118,29 @@ fn misfits_edition(m: Meter) -> bool
     if product_less(MOST_SECONDS, m.accepted, kept, 1) {
         return true;
     }
-    if keeps_seconds(edition) {
-        return false;
-    }
-    0 < kept
-}
-
-fn passes_a_limit(register: u64, volume: u64, count: u64) -> bool
-    ensures { λ r. ⌜ r ≡ (ltb largestRegister register || ltb largestVolume volume || ltb largestCount count) ⌝ }
-{
-    if LARGEST_REGISTER < register {
+    if is_lacked(keeps_seconds(edition), kept) {
         return true;
     }
-    if LARGEST_VOLUME < volume {
+    is_lacked(counts_cold(edition), m.cold_register)
+}
+
+// Whether a number above zero stands in a field that the edition lacks.
+fn is_lacked(has: bool, number: u64) -> bool
+    ensures { λ r. ⌜ r ≡ (not has && ltb 0 number) ⌝ }
+{
+    !has & (0 < number)
+}
+
+fn passes_a_limit(m: Meter, count: u64) -> bool
+    ensures { λ r. ⌜ r ≡ (ltb largestRegister (m .register) || ltb largestRegister (m .«cold_register») || ltb largestVolume (m .volume) || ltb largestCount count) ⌝ }
+{
+    if LARGEST_REGISTER < m.register {
+        return true;
+    }
+    if LARGEST_REGISTER < m.cold_register {
+        return true;
+    }
+    if LARGEST_VOLUME < m.volume {
         return true;
     }
     LARGEST_COUNT < count

@@ -1,5 +1,8 @@
 // The meter's step (document 01, "Meter's step"), in the order of the refusal table: card and state, then the sample's counts, its
 // readings, its ranges, and what it would add.
+use crate::register::Register;
+use crate::register::register_by;
+use crate::register::register_of;
 use crate::sample::Sample;
 use crate::sample::count_refusal;
 use crate::sample::kept_of;
@@ -19,6 +22,8 @@ ghost use Prim.Native.Nat.{_+_, _≤_, _<_};
 ghost use lib.Dec.{ltb};
 ghost use Rattle.quantity.specs.Refusals.{firstOf};
 ghost use Rattle.meter.specs.State.{largestRegister, largestVolume, largestCount};
+ghost use Rattle.meter.specs.Register.{addedTo};
+ghost use Rattle.meter.specs.declared.register.Register.the-variants.{Heat, Cold};
 ghost use Rattle.meter.specs.Step.{readingRows, rangeRows, limitRows, sampleRows, adding, refusing, bySample, stepOf};
 ghost use Rattle.meter.specs.inside.Stages.{BeforeSample, CountsPass, Compared, PairedIn, Heated, Fits};
 
@@ -29,8 +34,8 @@ pub struct Stepped {
 }
 
 // Takes one sample. Refused by a row of card or state, the meter is unchanged; refused by a row of the sample, its refused count is one
-// more; accepted, the floored heat goes to the register, the volume to the volume, the seconds of one above q_s to the kept ones, and the
-// accepted count is one more.
+// more; accepted, the floored heat goes to the register whose own the sample is, the volume to the volume, the seconds of one above q_s to
+// the kept ones, and the accepted count is one more.
 pub fn step(m: Meter, s: Sample) -> Stepped
     ensures { λ r. ⌜ r ≡ stepOf m s ⌝ }
 {
@@ -100,30 +105,35 @@ fn take_heat(
 {
     let answer = water::heat(volume, supply, returned, m.card.place);
     match answer {
-        water::Heat::Millijoules(heat) => take_amounts(m, s, heat, volume),
+        water::Heat::Millijoules(heat) => {
+            take_amounts(m, s, register_by(supply, returned), heat, volume)
+        }
         water::Heat::Refused(number) => refuse(m, number),
     }
 }
 
-fn take_amounts(m: Meter, s: Sample, heat: u64, volume: u64) -> Stepped
-    requires { ⌜ Heated m s heat volume ⌝ }
+fn take_amounts(m: Meter, s: Sample, own: Register, heat: u64, volume: u64) -> Stepped
+    requires { ⌜ Heated m s own heat volume ⌝ }
     ensures { λ r. ⌜ r ≡ bySample m s (firstOf (limitRows m s)) ⌝ }
 {
     let card = m.card;
-    let refusal = limit_refusal(m, s, heat, volume);
+    let refusal = limit_refusal(m, s, own, heat, volume);
     match refusal {
-        Outcome::Accepted => accept(m, heat, volume, kept_of(card, s, volume)),
+        Outcome::Accepted => accept(m, own, heat, volume, kept_of(card, s, volume)),
         Outcome::Refused(number) => refuse(m, number),
     }
 }
 
-// Rows 40 and 41, of a heat in mJ and a volume in mL.
-fn limit_refusal(m: Meter, s: Sample, heat: u64, volume: u64) -> Outcome
-    requires { ⌜ Heated m s heat volume ⌝ }
+// Rows 40 and 41, of a heat in mJ for the register whose own the sample is, and a volume in mL.
+fn limit_refusal(m: Meter, s: Sample, own: Register, heat: u64, volume: u64) -> Outcome
+    requires { ⌜ Heated m s own heat volume ⌝ }
     ensures { λ r. ⌜ r ≡ firstOf (limitRows m s) ⌝ }
 {
     let r = Outcome::Accepted.or_row(m.card.ps * 1000 * s.seconds < heat, 40);
-    r.or_row(passes_limits(m.register, heat, m.volume, volume), 41)
+    r.or_row(
+        passes_limits(register_of(own, m), heat, m.volume, volume),
+        41,
+    )
 }
 
 // A sum can pass 64 bits, so what is added is compared with the room that is left.
@@ -137,10 +147,21 @@ fn passes_limits(register: u64, heat: u64, volume: u64, added: u64) -> bool
     LARGEST_VOLUME - volume < added
 }
 
-// The meter with an accepted sample's heat, volume and kept seconds.
-fn accept(m: Meter, heat: u64, volume: u64, kept: u64) -> Stepped
-    requires { ⌜ Fits m heat volume kept ⌝ }
-    ensures { λ r. ⌜ r ≡ record { meter = adding m heat volume kept; outcome = Outcome.Accepted } ⌝ }
+// The meter with an accepted sample's volume and kept seconds, and its heat in the register whose own it is.
+fn accept(m: Meter, own: Register, heat: u64, volume: u64, kept: u64) -> Stepped
+    requires { ⌜ Fits m (addedTo Heat own heat) (addedTo Cold own heat) volume kept ⌝ }
+    ensures { λ r. ⌜ r ≡ record { meter = adding m (addedTo Heat own heat) (addedTo Cold own heat) volume kept; outcome = Outcome.Accepted } ⌝ }
+{
+    match own {
+        Register::Heat => add(m, heat, 0, volume, kept),
+        Register::Cold => add(m, 0, heat, volume, kept),
+    }
+}
+
+// The meter with what an accepted sample adds to each field.
+fn add(m: Meter, heat: u64, cold: u64, volume: u64, kept: u64) -> Stepped
+    requires { ⌜ Fits m heat cold volume kept ⌝ }
+    ensures { λ r. ⌜ r ≡ record { meter = adding m heat cold volume kept; outcome = Outcome.Accepted } ⌝ }
 {
     let card = m.card;
     Stepped {
@@ -152,6 +173,7 @@ fn accept(m: Meter, heat: u64, volume: u64, kept: u64) -> Stepped
             accepted: m.accepted + 1,
             refused: m.refused,
             kept_seconds: m.kept_seconds + kept,
+            cold_register: m.cold_register + cold,
         },
         outcome: Outcome::Accepted,
     }
@@ -172,6 +194,7 @@ fn refuse(m: Meter, number: u64) -> Stepped
             accepted: m.accepted,
             refused: m.refused + 1,
             kept_seconds: m.kept_seconds,
+            cold_register: m.cold_register,
         },
         outcome: Outcome::Refused(number),
     }

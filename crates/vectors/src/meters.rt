@@ -8,7 +8,7 @@ use quantity::Outcome;
 ghost use Prim.Native.Nat.{_≤_};
 
 // `M,` the card's twelve fields, the meter's state, then pulses, seconds, supply and return reading: the refusal or 0, then the state
-// afterwards. A state is register, volume, accepted, refused, edition and kept seconds.
+// afterwards. A state is register, volume, accepted, refused, edition, kept seconds and cold register.
 pub(crate) fn of_state(line: &[u8]) {
     let before = Meter {
         card: card_of(line, 0),
@@ -18,8 +18,9 @@ pub(crate) fn of_state(line: &[u8]) {
         refused: number(line, 16),
         edition: number(line, 17),
         kept_seconds: number(line, 18),
+        cold_register: number(line, 19),
     };
-    let stepped = meter::step(before, sample_of(line, 18));
+    let stepped = meter::step(before, sample_of(line, 19));
     let outcome = stepped.outcome;
     let after = stepped.meter;
     match outcome {
@@ -36,6 +37,7 @@ fn put_state(m: Meter) {
     put(b",", m.refused);
     put(b",", m.edition);
     put(b",", m.kept_seconds);
+    put(b",", m.cold_register);
 }
 
 // The card whose fields stand behind so many other numbers of the line.
@@ -60,7 +62,7 @@ pub(crate) fn card_of(line: &[u8], before: usize) -> Card
 
 // The sample whose four numbers stand behind so many others of the line.
 pub(crate) fn sample_of(line: &[u8], before: usize) -> Sample
-    requires { ⌜ before ≤ 18 ⌝ }
+    requires { ⌜ before ≤ 19 ⌝ }
 {
     Sample {
         pulses: number(line, before + 1),

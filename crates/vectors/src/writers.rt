@@ -28,6 +28,7 @@ fn totals_of(line: &[u8]) -> Totals {
         register: number(line, 7),
         volume: number(line, 8),
         kept_seconds: number(line, 9),
+        cold_register: number(line, 10),
     }
 }
 

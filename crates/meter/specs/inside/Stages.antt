@@ -8,8 +8,10 @@ use Rattle.quantity.specs.Fractions.{floored}
 use Rattle.meter.specs.Card.{cardRows}
 use Rattle.meter.specs.State.{stateRows, largestRegister, largestVolume, largestCount, mostSeconds}
 use Rattle.meter.specs.Sample.{volumeOf, ts, tr, sampleHeat}
+use Rattle.meter.specs.Register.{ownRegister}
 use Rattle.meter.specs.Step.{countRows}
 use Rattle.meter.specs.declared.card.Card.{Card}
+use Rattle.meter.specs.declared.register.Register.{Register}
 use Rattle.meter.specs.declared.state.Meter.{Meter}
 use Rattle.meter.specs.declared.sample.Sample.{Sample}
 
@@ -46,15 +48,17 @@ pub record PairedIn (m : Meter) (s : Sample) (volume : ℕ) (supply returned : T
   pub state : NoneApplies (stateRows m)
   pub pair : Paired (m .card) s volume supply returned
 
--- what the sample would add to register and volume
-pub record Heated (m : Meter) (s : Sample) (heat volume : ℕ) : Type 0 where
+-- what the sample would add to its own register and to the volume
+pub record Heated (m : Meter) (s : Sample) (own : Register) (heat volume : ℕ) : Type 0 where
   pub counted : CountsPass m s
+  pub own-is : own ≡ ownRegister (m .card) s
   pub heat-is : heat ≡ floored (sampleHeat (m .card) s)
   pub volume-is : volume ≡ volumeOf (m .card) s
 
 -- there is room for it, and for the seconds to keep
-pub record Fits (m : Meter) (heat volume kept : ℕ) : Type 0 where
+pub record Fits (m : Meter) (heat cold volume kept : ℕ) : Type 0 where
   pub register : m .register + heat ≤ largestRegister
+  pub cold-register : m .«cold_register» + cold ≤ largestRegister
   pub volume-room : m .volume + volume ≤ largestVolume
   pub counts : m .accepted + m .refused < largestCount
   pub kept-before : m .«kept_seconds» ≤ mostSeconds * m .accepted

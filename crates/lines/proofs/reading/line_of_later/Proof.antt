@@ -23,8 +23,8 @@ array-read-t17 c = search needs
 array-read-t20 : tie.Need-array-read-t20
 array-read-t20 c = search needs
 
-array-read-t24 : tie.Need-array-read-t24
-array-read-t24 c = search needs
+array-read-t23 : tie.Need-array-read-t23
+array-read-t23 c = search needs
 
 array-read-t27 : tie.Need-array-read-t27
 array-read-t27 c = search needs
@@ -34,6 +34,9 @@ array-read-t30 c = search needs
 
 array-read-t33 : tie.Need-array-read-t33
 array-read-t33 c = search needs
+
+array-read-t36 : tie.Need-array-read-t36
+array-read-t36 c = search needs
 
 returns : tie.Need-returns
 unfolding lineOf laterKind
@@ -52,9 +55,10 @@ line-of-later-spec =
     array-read-t14
     array-read-t17
     array-read-t20
-    array-read-t24
+    array-read-t23
     array-read-t27
     array-read-t30
     array-read-t33
+    array-read-t36
     returns
     returns-2)

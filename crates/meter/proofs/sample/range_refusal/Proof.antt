@@ -36,20 +36,20 @@ is-outside-theta-requires-2 c κs = c .before .before .before .before .before .b
 or-row-requires-2 : tie.Need-or-row-requires-2
 or-row-requires-2 c κs = search needs
 
-is-below-requires : tie.Need-is-below-requires
-is-below-requires c κs = search needs
+is-order-refused-requires : tie.Need-is-order-refused-requires
+is-order-refused-requires c κs = search needs
 
 or-row-requires-3 : tie.Need-or-row-requires-3
 or-row-requires-3 c κs = search needs
 
-is-below-requires-2 : tie.Need-is-below-requires-2
-is-below-requires-2 c κs = search needs
+is-below-requires : tie.Need-is-below-requires
+is-below-requires c κs = search needs
 
 or-row-requires-4 : tie.Need-or-row-requires-4
 or-row-requires-4 c κs = search needs
 
-is-below-requires-3 : tie.Need-is-below-requires-3
-is-below-requires-3 c κs = search needs
+is-below-requires-2 : tie.Need-is-below-requires-2
+is-below-requires-2 c κs = search needs
 
 or-row-requires-5 : tie.Need-or-row-requires-5
 or-row-requires-5 c κs = search needs
@@ -69,11 +69,11 @@ returns c =
       c .or-row6 .ensures,
       c .before .is-flow-refused .ensures,
       c .before .before .or-row5 .ensures,
-      c .before .before .before .is-below3 .ensures,
+      c .before .before .before .is-below2 .ensures,
       c .before .before .before .before .or-row4 .ensures,
-      c .before .before .before .before .before .is-below2 .ensures,
+      c .before .before .before .before .before .is-below .ensures,
       c .before .before .before .before .before .before .or-row3 .ensures,
-      c .before .before .before .before .before .before .before .is-below .ensures,
+      c .before .before .before .before .before .before .before .is-order-refused .ensures,
       c .before .before .before .before .before .before .before .before .or-row2 .ensures,
       c .before .before .before .before .before .before .before .before .before .is-outside-theta2 .ensures,
       c .before .before .before .before .before .before .before .before .before .before .or-row .ensures,
@@ -99,11 +99,11 @@ range-refusal-spec =
     or-row-requires
     is-outside-theta-requires-2
     or-row-requires-2
-    is-below-requires
+    is-order-refused-requires
     or-row-requires-3
-    is-below-requires-2
+    is-below-requires
     or-row-requires-4
-    is-below-requires-3
+    is-below-requires-2
     or-row-requires-5
     is-flow-refused-requires
     or-row-requires-6

@@ -2,11 +2,11 @@
 -- Assumes nothing.
 use borrow.Author.Needs.{needs}
 use mathlib.Core.Path.{_≡_, sym, _∙_, ap}
-use mathlib.Core.Bool.{false}
+use mathlib.Core.Bool.{Bool, false, not, _&&_}
 use Prim.Native.Nat.{_*_}
 use native.Mathlib.Nat.{mul-one}
 use lib.Dec.{ltb}
-use Rattle.meter.specs.Edition.{isOtherEdition}
+use Rattle.meter.specs.Edition.{isOtherEdition, keepsSeconds}
 use Rattle.meter.specs.State.{mostSeconds}
 use Rattle.meter.proofs.state.misfits_edition.Statement.{statement}
 use Rattle.meter.proofs.state.misfits_edition.Tie as tie
@@ -38,15 +38,31 @@ returns-2 c = simp (known (c .before .before), compared (c .before) ∙ c .if2 .
 keeps-seconds-requires : tie.Need-keeps-seconds-requires
 keeps-seconds-requires c κs = search needs
 
+is-lacked-requires : tie.Need-is-lacked-requires
+is-lacked-requires c κs = search needs
+
+-- the third looks at the kept seconds of an edition that keeps none
+looked-at : (c : tie.After-is-lacked) →
+    let m = c .before .before .before .before .before .before .args .m in
+    (not (keepsSeconds (m .edition)) && ltb 0 (m .«kept_seconds»)) ≡ c .is-lacked .result
+looked-at c = sym (c .is-lacked .ensures ∙ ap (λ (keeps : Bool). not keeps && ltb 0 (c .before .before .before .before .before .before .args .m .«kept_seconds»)) (c .before .keeps-seconds .ensures))
+
 returns-3 : tie.Need-returns-3
 returns-3 c =
-    let d = c .before .before in
-    simp (known (d .before .before), compared (d .before) ∙ d .if2 .left, sym (c .before .keeps-seconds .ensures) ∙ c .if3 .taken)
+    let d = c .before .before .before in
+    simp (known (d .before .before), compared (d .before) ∙ d .if2 .left, looked-at (c .before) ∙ c .if3 .taken)
+
+counts-cold-requires : tie.Need-counts-cold-requires
+counts-cold-requires c κs = search needs
+
+is-lacked-requires-2 : tie.Need-is-lacked-requires-2
+is-lacked-requires-2 c κs = search needs
 
 returns-4 : tie.Need-returns-4
 returns-4 c =
-    let d = c .before .before in
-    simp (known (d .before .before), compared (d .before) ∙ d .if2 .left, sym (c .before .keeps-seconds .ensures) ∙ c .if3 .left)
+    let third = c .before .before in
+    let d = third .before .before .before in
+    simp (known (d .before .before), compared (d .before) ∙ d .if2 .left, looked-at (third .before) ∙ third .if3 .left, c .is-lacked2 .ensures, c .before .counts-cold .ensures)
 
 pub misfits-edition-spec : {M : Type 1} → statement M
 misfits-edition-spec =
@@ -57,5 +73,8 @@ misfits-edition-spec =
     product-less-requires
     returns-2
     keeps-seconds-requires
+    is-lacked-requires
     returns-3
+    counts-cold-requires
+    is-lacked-requires-2
     returns-4)

@@ -19,10 +19,14 @@ mul-or-row-2 c =
 or-row-requires : tie.Need-or-row-requires
 or-row-requires c κs = search needs
 
+register-of-requires : tie.Need-register-of-requires
+register-of-requires c κs = search needs
+
 passes-limits-requires : tie.Need-passes-limits-requires
 passes-limits-requires c κs =
-    let h = accepted-state _ (c .before .before .before .pre .counted .before-sample .state) in
-    (h .register, h .volume)
+    let s = c .before .before .before .before in
+    let h = accepted-state (s .args .m) (s .pre .counted .before-sample .state) in
+    rw (c .register-of .ensures) (h .registers (s .args .own), h .volume)
 
 or-row-requires-2 : tie.Need-or-row-requires-2
 or-row-requires-2 c κs = search needs
@@ -30,9 +34,19 @@ or-row-requires-2 c κs = search needs
 returns : tie.Need-returns
 unfolding limitRows
 returns c =
-    let p = c .before .before .before .before .before .pre in
-    simp (c .or-row2 .ensures, c .before .passes-limits .ensures, c .before .before .or-row .ensures, p .heat-is, p .volume-is)
-    (accumulated (limitRows (c .before .before .before .before .before .args .m) (c .before .before .before .before .before .args .s)))
+    let before = c .before .before in
+    let s = before .before .before .before .before in
+    let p = s .pre in
+    simp (
+      c .or-row2 .ensures,
+      c .before .passes-limits .ensures,
+      before .register-of .ensures,
+      before .before .or-row .ensures,
+      p .own-is,
+      p .heat-is,
+      p .volume-is,
+    )
+    (accumulated (limitRows (s .args .m) (s .args .s)))
 
 pub limit-refusal-spec : {M : Type 1} → statement M
 limit-refusal-spec =
@@ -41,6 +55,7 @@ limit-refusal-spec =
     mul-or-row
     mul-or-row-2
     or-row-requires
+    register-of-requires
     passes-limits-requires
     or-row-requires-2
     returns)

@@ -2,7 +2,12 @@
 -- Assumes nothing.
 use borrow.Author.Needs.{needs}
 use mathlib.Core.Path.{sym, _∙_}
+use Rattle.quantity.specs.Fractions.{floored}
+use Rattle.meter.specs.Sample.{sampleHeat}
+use Rattle.meter.specs.Register.{ownRegister}
 use Rattle.meter.specs.Step.{limitRows}
+use Rattle.meter.specs.declared.register.Register.the-variants.{Heat, Cold}
+use Rattle.meter.proofs.Registers.{room-in-each}
 use Rattle.meter.proofs.Accepted.{accepted-state, accepted-counts, kept-at-most, accepted-limits}
 use Rattle.meter.proofs.Stages.{passed, countable}
 use Rattle.meter.proofs.stepping.take_amounts.Statement.{statement}
@@ -26,9 +31,13 @@ accept-requires c κs =
     let p = d .before .before .pre in
     let limits = accepted-limits _ _ (passed (limitRows (a .m) (a .s)) _ (d .limit-refusal .ensures) (c .before .enum-told .given .1)) in
     let state = accepted-state _ (p .counted .before-sample .state) in
-    rw (p .heat-is, p .volume-is, c .kept-of .ensures)
+    let m = a .m in
+    let own = ownRegister (m .card) (a .s) in
+    let heat = floored (sampleHeat (m .card) (a .s)) in
+    rw (p .own-is, p .heat-is, p .volume-is, c .kept-of .ensures)
     (record {
-      register = limits .register;
+      register = room-in-each Heat own m heat (state .registers) (limits .own);
+      cold-register = room-in-each Cold own m heat (state .registers) (limits .own);
       volume-room = limits .volume;
       counts = state .counts;
       kept-before = state .kept;
@@ -45,7 +54,7 @@ returns : tie.Need-returns
 returns c =
     let d = c .before .before .before .before in
     let p = d .before .before .pre in
-    simp (sym (d .limit-refusal .ensures) ∙ c .before .before .enum-told .given .1, c .accept .ensures, c .before .kept-of .ensures, p .heat-is, p .volume-is)
+    simp (sym (d .limit-refusal .ensures) ∙ c .before .before .enum-told .given .1, c .accept .ensures, c .before .kept-of .ensures, p .own-is, p .heat-is, p .volume-is)
 
 returns-2 : tie.Need-returns-2
 returns-2 c =

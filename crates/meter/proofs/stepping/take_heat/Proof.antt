@@ -1,10 +1,11 @@
 -- `meter::stepping::take_heat` meets its contract: the water's operation answers the floor of the sample's exact heat, and refuses nothing here.
 -- Assumes nothing.
 use borrow.Author.Needs.{needs}
-use mathlib.Core.Path.{_≡_, sym, _∙_}
+use mathlib.Core.Path.{_≡_, sym, _∙_, ap₂}
 use Rattle.water.specs.declared.answers.Heat.the-variants.{Millijoules}
 use Rattle.quantity.specs.Fractions.{floored}
 use Rattle.meter.specs.Sample.{sampleHeat}
+use Rattle.meter.specs.Register.{registerBy}
 use Rattle.meter.proofs.Heats.{of-sample, same-heat, never-refused}
 use Rattle.meter.proofs.Stages.{countable}
 use Rattle.meter.proofs.stepping.take_heat.Statement.{statement}
@@ -19,13 +20,18 @@ heat-requires c κs = search needs
 enum-known-answer : tie.Need-enum-known-answer
 enum-known-answer c = search needs
 
+register-by-requires : tie.Need-register-by-requires
+register-by-requires c κs = search needs
+
 take-amounts-requires : tie.Need-take-amounts-requires
 take-amounts-requires c κs =
-    let p = c .before .before .before .before .pre in
+    let d = c .before .before in
+    let p = d .before .before .before .pre in
     let q = p .pair .volumed in
     record {
       counted = record { before-sample = record { card = q .card; state = p .state }; count = q .count };
-      heat-is = same-heat _ _ (sym (c .before .answer .given .1) ∙ told (c .before .before .before));
+      own-is = c .register-by .ensures ∙ ap₂ registerBy (p .pair .supply-is) (p .pair .returned-is);
+      heat-is = same-heat _ _ (sym (d .answer .given .1) ∙ told (d .before .before));
       volume-is = q .volume-is;
     }
 
@@ -47,6 +53,7 @@ take-heat-spec =
     (tie.spec
     heat-requires
     enum-known-answer
+    register-by-requires
     take-amounts-requires
     enum-known-answer-2
     refuse-requires
