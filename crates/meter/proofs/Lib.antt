@@ -9,6 +9,7 @@ pub mod Counts
 pub mod Editions
 pub mod Elements
 pub mod Existence
+pub mod Own
 pub mod Registers
 pub mod Stages
 pub mod Theorem

@@ -8,6 +8,23 @@ use Rattle.meter.proofs.Accepted.{accepted-card, accepted-state, accept
 use Rattle.meter.proofs.stepping.limit_refusal.Statement.{statement}
 use Rattle.meter.proofs.stepping.limit_refusal.Tie as tie
 
+returns : tie.Need-returns
+unfolding limitRows
+returns c =
+    let before = c .before .before in
+    let s = before .before .before .before .before in
+    let p = s .pre in
+    simp (
+      c .or-row2 .ensures,
+      c .before .passes-limits .ensures,
+      before .register-of .ensures,
+      before .before .or-row .ensures,
+      p .own-is,
+      p .heat-is,
+      p .volume-is,
+    )
+    (accumulated (limitRows (s .args .m) (s .args .s)))
+
 mul-or-row : tie.Need-mul-or-row
 mul-or-row c = omega (arith, accepted-card _ (c .before .pre .counted .before-sample .card))
 
@@ -30,23 +47,6 @@ passes-limits-requires c κs =
 
 or-row-requires-2 : tie.Need-or-row-requires-2
 or-row-requires-2 c κs = search needs
-
-returns : tie.Need-returns
-unfolding limitRows
-returns c =
-    let before = c .before .before in
-    let s = before .before .before .before .before in
-    let p = s .pre in
-    simp (
-      c .or-row2 .ensures,
-      c .before .passes-limits .ensures,
-      before .register-of .ensures,
-      before .before .or-row .ensures,
-      p .own-is,
-      p .heat-is,
-      p .volume-is,
-    )
-    (accumulated (limitRows (s .args .m) (s .args .s)))
 
 pub limit-refusal-spec : {M : Type 1} → statement M
 limit-refusal-spec =

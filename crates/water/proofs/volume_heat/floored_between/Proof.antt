@@ -20,12 +20,14 @@ floored-heat-requires c κs =
     let p = c .before .before .pre in
     let a = c .before .before .args in
     let below = ltb-true (a .ts .0) (a .tr .0) (tested (c .before) ∙ c .if1 .taken) in
-    (p .0, omega (arith, below), p .2, p .3)
+    omega (arith, below, p)
 
 floored-heat-requires-2 : tie.Need-floored-heat-requires-2
 floored-heat-requires-2 c κs =
     let p = c .before .before .pre in
-    (p .0, ltb-false _ _ (tested (c .before) ∙ c .if1 .left), p .1, p .3)
+    let a = c .before .before .args in
+    let not-below = ltb-false (a .ts .0) (a .tr .0) (tested (c .before) ∙ c .if1 .left) in
+    omega (arith, not-below, p)
 
 returns : tie.Need-returns
 returns c = simp (tested (c .before .before) ∙ c .before .if1 .taken, c .floored-heat .ensures)
