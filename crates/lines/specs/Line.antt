@@ -13,6 +13,7 @@ use Rattle.lines.specs.Number.{decimal}
 use Rattle.lines.specs.declared.line.Line.{Line}
 use Rattle.lines.specs.declared.line.Line.the-variants as L
 use Rattle.lines.specs.declared.line.EditionLine.{EditionLine}
+use Rattle.lines.specs.declared.line.Totals.{Totals}
 
 -- the kinds of line
 pub data LineKind : Type 0 where
@@ -108,20 +109,24 @@ cardOf ns = record {
   ps = getD ns 11 0;
 }
 
+-- the sample of its numbers, and the totals of theirs
+abbrev pub sampleFrom : List ℕ → Sample
+sampleFrom ns = record { pulses = getD ns 0 0; seconds = getD ns 1 0; «supply_reading» = getD ns 2 0; «return_reading» = getD ns 3 0 }
+
+abbrev pub totalsFrom : List ℕ → Totals
+totalsFrom ns = record {
+  accepted = getD ns 0 0;
+  refused = getD ns 1 0;
+  register = getD ns 2 0;
+  volume = getD ns 3 0;
+  «kept_seconds» = getD ns 4 0;
+  «cold_register» = getD ns 5 0;
+}
+
 -- The line of a kind with given numbers, as many as it has, and 0 for a field that the edition lacks; `LineOf` and `NumbersLine` of
 -- specs/Theorems.antt tie it to `numbersOf`.
 unfoldable pub lineOf : LineKind → List ℕ → Line
 lineOf opening ns = L.Opening
 lineOf card ns = L.Card (cardOf ns)
-lineOf sample ns =
-    L.Sample (record { pulses = getD ns 0 0; seconds = getD ns 1 0; «supply_reading» = getD ns 2 0; «return_reading» = getD ns 3 0 })
-lineOf totals ns =
-    L.End
-    (record {
-      accepted = getD ns 0 0;
-      refused = getD ns 1 0;
-      register = getD ns 2 0;
-      volume = getD ns 3 0;
-      «kept_seconds» = getD ns 4 0;
-      «cold_register» = getD ns 5 0;
-    })
+lineOf sample ns = L.Sample (sampleFrom ns)
+lineOf totals ns = L.End (totalsFrom ns)

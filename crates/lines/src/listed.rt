@@ -1,6 +1,7 @@
 // A line's numbers as a list, and how many bytes they take.
 use crate::line::EditionLine;
 use crate::line::Line;
+use crate::line::Totals;
 use crate::number::width;
 use meter::CARD_FIELDS;
 use meter::counts_cold;
@@ -10,7 +11,8 @@ ghost use mathlib.Core.List.{map};
 ghost use Prim.Native.Nat.{_≤_};
 ghost use lib.ListN.{length};
 ghost use Rattle.lines.specs.Number.{decimal, someFrom};
-ghost use Rattle.lines.specs.Line.{totals, kindOf, firstField, countOf, afterCommas, openingLength};
+ghost use Rattle.lines.specs.Line.{totals, kindOf, firstField, countOf, afterCommas, inEdition, openingLength};
+ghost use Rattle.lines.specs.declared.line.Line.the-variants.{End};
 ghost use Rattle.lines.specs.inside.Parts.{AreListed, LineListed, mostBytes, mostNumbers, mostLater};
 
 // The card's line has the most numbers.
@@ -52,18 +54,25 @@ pub(crate) fn numbers_of(what: EditionLine) -> Listed
             &[s.pulses, s.seconds, s.supply_reading, s.return_reading],
             4,
         ),
-        Line::End(t) => list(
-            &[
-                t.accepted,
-                t.refused,
-                t.register,
-                t.volume,
-                t.kept_seconds,
-                t.cold_register,
-            ],
-            totals_count(edition),
-        ),
+        Line::End(t) => totals_listed(edition, t),
     }
+}
+
+// The numbers of line E in an edition.
+fn totals_listed(edition: u64, t: Totals) -> Listed
+    ensures { λ r. ⌜ LineListed (inEdition edition (End t)) r ⌝ }
+{
+    list(
+        &[
+            t.accepted,
+            t.refused,
+            t.register,
+            t.volume,
+            t.kept_seconds,
+            t.cold_register,
+        ],
+        totals_count(edition),
+    )
 }
 
 // How many numbers line E has in an edition.

@@ -22,7 +22,7 @@ ghost use Rattle.quantity.specs.Refusals.{firstOf};
 ghost use Rattle.meter.specs.Edition.{isOtherEdition};
 ghost use Rattle.meter.specs.Card.{cardRows};
 ghost use Rattle.lines.specs.Reading.{editionIn, answerOf, readOf, restOf};
-ghost use Rattle.lines.specs.Line.{countOf, lineOf};
+ghost use Rattle.lines.specs.Line.{countOf, lineOf, sampleFrom, totalsFrom};
 ghost use Rattle.lines.specs.inside.Parts.{Lettered, LaterLetter, laterKind, mostLater};
 ghost use Rattle.lines.specs.declared.line.Line.the-variants as L;
 ghost use Rattle.lines.specs.declared.line.MayCome.the-variants as M;
@@ -145,21 +145,35 @@ fn line_of_later(letter: u8, f: [u64; MOST_LATER]) -> Line
     ensures { λ r. ⌜ r ≡ lineOf (laterKind letter) f ⌝ }
 {
     if letter == b'E' {
-        Line::End(Totals {
-            accepted: f[0],
-            refused: f[1],
-            register: f[2],
-            volume: f[3],
-            kept_seconds: f[4],
-            cold_register: f[5],
-        })
+        Line::End(totals_from(f))
     } else {
-        Line::Sample(Sample {
-            pulses: f[0],
-            seconds: f[1],
-            supply_reading: f[2],
-            return_reading: f[3],
-        })
+        Line::Sample(sample_from(f))
+    }
+}
+
+// The totals of line E's numbers.
+fn totals_from(f: [u64; MOST_LATER]) -> Totals
+    ensures { λ r. ⌜ r ≡ totalsFrom f ⌝ }
+{
+    Totals {
+        accepted: f[0],
+        refused: f[1],
+        register: f[2],
+        volume: f[3],
+        kept_seconds: f[4],
+        cold_register: f[5],
+    }
+}
+
+// The sample of line S's numbers, the first four.
+fn sample_from(f: [u64; MOST_LATER]) -> Sample
+    ensures { λ r. ⌜ r ≡ sampleFrom f ⌝ }
+{
+    Sample {
+        pulses: f[0],
+        seconds: f[1],
+        supply_reading: f[2],
+        return_reading: f[3],
     }
 }
 

@@ -186,7 +186,7 @@ pub accepted-order : (e : ℕ) (c : Card) (s : Sample) → NoneApplies (rangeRow
 unfolding rangeRows
 accepted-order e c s h k = rw (not-both (countsCold e) (isColder (ts c s) (tr c s)) (h .1 .1 .0) k) refl
 
--- it keeps none of one that is not above q_s
+-- a meter keeps no seconds of a sample that is not above q_s
 pub kept-none : (c : Card) (s : Sample) → isAboveQs c s ≡ false → keptOf c s ≡ 0
 unfolding keptOf
 kept-none c s e = rw e refl

@@ -1,14 +1,13 @@
--- Where two editions answer alike: one sample that is the heat register's own, in editions 2 and 3; and a run of samples that both editions take
--- alike, from their fresh meters.
+-- Where two editions answer alike: a sample that is the heat register's own, in editions 2 and 3; and a run of samples that both editions take
+-- alike, from zeros.
 -- Assumes nothing.
 use mathlib.Core.Path.{_≡_, refl, sym, _∙_, ap, ap₂, subst}
-use mathlib.Core.List.{List, [], _∷_, _++_}
+use mathlib.Core.List.{List, [], _∷_, _++_, append-assoc}
 use mathlib.Core.Bool.{false}
 use Prim.Native.Nat.{ℕ, _+_, _≤_}
 use native.Mathlib.Nat.{add-zero}
 use borrow.Author.Tests.{le-ltb}
 use Rattle.quantity.specs.Units.{isColder}
-use Rattle.quantity.specs.Fractions.{floored}
 use Rattle.quantity.specs.Refusals.{Row, outside, firstOf}
 use Rattle.quantity.specs.declared.refusal.Outcome.{Outcome}
 use Rattle.quantity.specs.declared.refusal.Outcome.the-variants.{Accepted, Refused}
@@ -16,13 +15,13 @@ use Rattle.quantity.proofs.Rows.{orElse, parts}
 use Rattle.meter.specs.Edition.{isOtherEdition}
 use Rattle.meter.specs.Card.{cardRows}
 use Rattle.meter.specs.State.{zeros, largestRegister, stateRows}
-use Rattle.meter.specs.Sample.{ts, tr, sampleHeat}
-use Rattle.meter.specs.Register.{registerOf, ownRegister, addedTo}
-use Rattle.meter.specs.Step.{countRows, readingRows, rangeRows, limitRows, sampleRows, accepting, refusing, bySample, byCardAndState, cardAndStateRows, stepOf}
+use Rattle.meter.specs.Sample.{ts, tr}
+use Rattle.meter.specs.Register.{registerOf, ownRegister}
+use Rattle.meter.specs.Step.{countRows, readingRows, rangeRows, limitRows, sampleRows, addedBy, accepting, refusing, bySample, byCardAndState, cardAndStateRows, stepOf}
 use Rattle.meter.specs.Sum.{Mark}
 use Rattle.meter.specs.Calls.{markOf}
 use Rattle.meter.specs.Run.{marksOf, lastOf}
-use Rattle.meter.specs.Theorems.{WithinLimits, inEdition, changed, HeatAsInEdition2, withEdition, TakenAlike, AllTakenAlike, EditionsAgree}
+use Rattle.meter.specs.Theorems.{WithinLimits, underEdition, changed, HeatAsInEdition2, withEdition, TakenAlike, AllTakenAlike, EditionsAgree}
 use Rattle.meter.specs.declared.card.Card.{Card}
 use Rattle.meter.specs.declared.register.Register.{Register}
 use Rattle.meter.specs.declared.register.Register.the-variants.{Heat, Cold}
@@ -56,19 +55,23 @@ same-step f m s h = ap (byCardAndState (f m) s) (h .before) ∙ by (firstOf (car
 same-before : (c : Card) (rs ss : List Row) → firstOf rs ≡ firstOf ss → firstOf (cardRows c ++ rs) ≡ firstOf (cardRows c ++ ss)
 same-before c rs ss e = parts (cardRows c) rs ∙ ap (orElse (firstOf (cardRows c))) e ∙ sym (parts (cardRows c) ss)
 
--- those of a sample, from the rows of its ranges and of its limits
-abbrev byRanges : Card → Sample → List Row → List Row → Outcome
-byRanges c s range limit = firstOf (countRows c s ++ (readingRows c s ++ (range ++ limit)))
+-- rows in parts of which the last is the fourth
+last-part : (ps qs rs ss : List Row) → firstOf (ps ++ (qs ++ (rs ++ ss))) ≡ orElse (firstOf (ps ++ (qs ++ rs))) (firstOf ss)
+last-part ps qs rs ss =
+    ap (λ (l : List Row). firstOf (ps ++ l)) (sym (append-assoc qs rs ss)) ∙ ap firstOf (sym (append-assoc ps (qs ++ rs) ss)) ∙ parts (ps ++ (qs ++ rs)) ss
 
--- the rows of the ranges of a sample that two editions take alike
-same-range : (e f : ℕ) (c : Card) (s : Sample) → TakenAlike e f c s → rangeRows f c s ≡ rangeRows e c s
-unfolding rangeRows
-same-range e f c s h = simp (h .order, h .flow)
+-- those of a sample lead to the same where it is taken alike and the rows of its limits are the same
+same-sample : (e f : ℕ) (c : Card) (s : Sample) (ls ks : List Row) → TakenAlike e f c s → ls ≡ ks →
+    firstOf (countRows c s ++ (readingRows c s ++ (rangeRows f c s ++ ls))) ≡ firstOf (countRows c s ++ (readingRows c s ++ (rangeRows e c s ++ ks)))
+same-sample e f c s ls ks w l =
+    last-part (countRows c s) (readingRows c s) (rangeRows f c s) ls
+    ∙ ap₂ orElse (sym w) (ap firstOf l)
+    ∙ sym (last-part (countRows c s) (readingRows c s) (rangeRows e c s) ks)
 
 -- the rows of the limits, where the sample's own register has the same in it
 same-limit : (e cold : ℕ) (m : Meter) (s : Sample) →
     let own = ownRegister (m .card) s in
-    registerOf own (inEdition e cold m) ≡ registerOf own m → limitRows (inEdition e cold m) s ≡ limitRows m s
+    registerOf own (underEdition e cold m) ≡ registerOf own m → limitRows (underEdition e cold m) s ≡ limitRows m s
 unfolding limitRows
 same-limit e cold m s h = simp h
 
@@ -78,54 +81,81 @@ same-register Heat f m = refl
 same-register Cold f m = refl
 
 -- a meter of edition 3 whose cold register keeps its limit is refused by its state exactly as that of edition 2 without cold
-same-state : (m : Meter) (cold : ℕ) → cold ≤ largestRegister → stateRows (inEdition 3 cold m) ≡ stateRows (inEdition 2 0 m)
+same-state : (m : Meter) (cold : ℕ) → cold ≤ largestRegister → stateRows (underEdition 3 cold m) ≡ stateRows (underEdition 2 0 m)
 unfolding stateRows outside
 same-state m cold most = simp (le-ltb largestRegister cold most)
 
 -- neither edition refuses a sample by 36 whose supply is not below its return, nor by 39
 heat-alike : (c : Card) (s : Sample) → isColder (ts c s) (tr c s) ≡ false → TakenAlike 2 3 c s
-heat-alike c s e = record { order = e; flow = refl }
+unfolding rangeRows
+heat-alike c s e = rw e refl
 
 pub heat-as-in-edition-2 : HeatAsInEdition2
 heat-as-in-edition-2 m cold s most e =
     let c = m .card in
-    let n = inEdition 2 0 m in
-    let nothing-more : cold + addedTo Cold (ownRegister c s) (floored (sampleHeat c s)) ≡ cold = rw e (add-zero cold) in
-    same-step (inEdition 3 cold) n s
+    let n = underEdition 2 0 m in
+    let nothing-more : cold + addedBy Cold c s ≡ cold = rw e (add-zero cold) in
+    same-step (underEdition 3 cold) n s
     (record {
       before = same-before c _ _ (ap firstOf (same-state m cold most));
-      sample = ap₂ (byRanges c s) (same-range 2 3 c s (heat-alike c s e)) (same-limit 3 cold n s (rw e refl));
-      when-accepted = ap (λ (k : ℕ). inEdition 3 k (accepting n s)) nothing-more;
+      sample = same-sample 2 3 c s _ _ (heat-alike c s e) (same-limit 3 cold n s (rw e refl));
+      when-accepted = ap (λ (k : ℕ). underEdition 3 k (accepting n s)) nothing-more;
       when-refused = refl;
     })
 
--- of two meters within their limits that are the same but for the edition, each answers a sample that both editions take alike as the other
-alike : (f : ℕ) (m : Meter) (s : Sample) → WithinLimits m → WithinLimits (withEdition f m) → TakenAlike (m .edition) f (m .card) s → Alike (withEdition f) m s
-alike f m s g h w = record {
-  before = same-before (m .card) _ _ (by-state (withEdition f m) h ∙ sym (by-state m g));
-  sample = ap₂ (byRanges (m .card) s) (same-range (m .edition) f (m .card) s w) (same-limit f (m .«cold_register») m s (same-register (ownRegister (m .card) s) f m));
-  when-accepted = refl;
-  when-refused = refl;
-}
+-- two runs are alike but for the edition, and so stay along samples that both take alike, where each step is so and what it rests on stays
+abbrev RunsAlike : ℕ → Meter → List Sample → Type 0
+RunsAlike f m ss = (marksOf m ss ≡ marksOf (withEdition f m) ss) × (withEdition f (lastOf m ss) ≡ lastOf (withEdition f m) ss)
 
--- sample by sample the answers stay alike, and the meters but for the edition
-agree : (f : ℕ) (ss : List Sample) (m : Meter) → WithinLimits m → WithinLimits (withEdition f m) → AllTakenAlike (m .edition) f (m .card) ss →
-    (marksOf m ss ≡ marksOf (withEdition f m) ss) × (withEdition f (lastOf m ss) ≡ lastOf (withEdition f m) ss)
-agree f [] m g h w = (refl, refl)
-agree f (s ∷ ss) m g h w =
+abbrev StepsAlike : ℕ → (Meter → Type 0) → Type 0
+StepsAlike f P =
+    (m : Meter) (s : Sample) → P m → TakenAlike (m .edition) f (m .card) s → (stepOf (withEdition f m) s ≡ changed (withEdition f) (stepOf m s)) × P (stepOf m s .meter)
+
+agree : (f : ℕ) (P : Meter → Type 0) → StepsAlike f P → (ss : List Sample) (m : Meter) → P m → AllTakenAlike (m .edition) f (m .card) ss → RunsAlike f m ss
+agree f P h [] m p w = (refl, refl)
+agree f P h (s ∷ ss) m p w =
     let a = stepOf m s in
-    let same = same-step (withEdition f) m s (alike f m s g h (w .0)) in
+    let one = h m s p (w .0) in
     let stays = stays-after m s a (step-answers m s) in
     let others = subst (λ (c : Card). AllTakenAlike (a .meter .edition) f c ss) (sym (stays .card)) (subst (λ (e : ℕ). AllTakenAlike e f (m .card) ss) (sym (stays .edition)) (w .1)) in
-    let still = subst (λ (b : Stepped). WithinLimits (b .meter)) same (within-after (withEdition f m) s _ (step-answers (withEdition f m) s) h) in
-    let rest = agree f ss (a .meter) (within-after m s a (step-answers m s) g) still others in
+    let rest = agree f P h ss (a .meter) (one .1) others in
     subst (λ (b : Stepped). (markOf s a ∷ marksOf (a .meter) ss ≡ markOf s b ∷ marksOf (b .meter) ss) × (withEdition f (lastOf (a .meter) ss) ≡ lastOf (b .meter) ss))
-    (sym same)
+    (sym (one .0))
     (ap (λ (ks : List Mark). markOf s a ∷ ks) (rest .0), rest .1)
+
+-- as where both meters are within their limits
+both-within : (f : ℕ) → StepsAlike f (λ (m : Meter). WithinLimits m × WithinLimits (withEdition f m))
+both-within f m s g w =
+    let same =
+    same-step (withEdition f) m s
+    (record {
+      before = same-before (m .card) _ _ (by-state (withEdition f m) (g .1) ∙ sym (by-state m (g .0)));
+      sample = same-sample (m .edition) f (m .card) s _ _ w (same-limit f (m .«cold_register») m s (same-register (ownRegister (m .card) s) f m));
+      when-accepted = refl;
+      when-refused = refl;
+    }) in
+    let after = within-after m s (stepOf m s) (step-answers m s) (g .0) in
+    let still = subst (λ (b : Stepped). WithinLimits (b .meter)) same (within-after (withEdition f m) s _ (step-answers (withEdition f m) s) (g .1)) in
+    (same, (after, still))
+
+-- and where the card is refused, which leaves a meter as it is
+by-card : (m : Meter) (s : Sample) (n : ℕ) → firstOf (cardRows (m .card)) ≡ Refused n → stepOf m s ≡ record { meter = m; outcome = Refused n }
+unfolding stepOf
+by-card m s n e = ap (byCardAndState m s) (parts (cardRows (m .card)) (stateRows m) ∙ ap (λ (o : Outcome). orElse o (firstOf (stateRows m))) e)
+
+card-refused : (f n : ℕ) → StepsAlike f (λ (m : Meter). firstOf (cardRows (m .card)) ≡ Refused n)
+card-refused f n m s e w =
+    let left = by-card m s n e in
+    (by-card (withEdition f m) s n e ∙ sym (ap (changed (withEdition f)) left), subst (λ (a : Stepped). firstOf (cardRows (a .meter .card)) ≡ Refused n) (sym left) e)
 
 -- so do fresh meters
 pub editions-agree : EditionsAgree
-editions-agree c e f ss known known-too card w =
-    let within : (x : ℕ) → isOtherEdition x ≡ false → WithinLimits (zeros c x) = λ x k. fresh-within c x (zeros c x) (fresh-made c x card k) in
-    let p = agree f ss (zeros c e) (within e known) (within f known-too) w in
+editions-agree c e f ss known known-too w =
+    let p = by (firstOf (cardRows c)) refl in
     record { marks = p .0; last = p .1 }
+  where
+    by : (o : Outcome) → firstOf (cardRows c) ≡ o → RunsAlike f (zeros c e) ss
+    by Accepted card =
+        let within : (x : ℕ) → isOtherEdition x ≡ false → WithinLimits (zeros c x) = λ x k. fresh-within c x (zeros c x) (fresh-made c x card k) in
+        agree f _ (both-within f) ss (zeros c e) (within e known, within f known-too) w
+    by (Refused n) card = agree f _ (card-refused f n) ss (zeros c e) card w

@@ -40,10 +40,13 @@ abbrev pub largestCount : ℕ
 largestCount = 10 ^ 12
 
 -- "20 register above 10^18−1, volume above 10^15−1 or the two counts together above 10^12"; the cold register's limit is the heat register's:
--- "20 and 41 apply their heat limit to it as well"
+-- "20 and 41 apply their heat limit to it as well". The two counts are count together.
+abbrev pub passesLimitBy : Meter → ℕ → Bool
+passesLimitBy m count =
+    ltb largestRegister (m .register) || ltb largestRegister (m .«cold_register») || ltb largestVolume (m .volume) || ltb largestCount count
+
 abbrev pub passesLimit : Meter → Bool
-passesLimit m =
-    ltb largestRegister (m .register) || ltb largestRegister (m .«cold_register») || ltb largestVolume (m .volume) || ltb largestCount (m .accepted + m .refused)
+passesLimit m = passesLimitBy m (m .accepted + m .refused)
 
 -- the most seconds of a sample, those of 30
 abbrev pub mostSeconds : ℕ

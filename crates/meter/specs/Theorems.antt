@@ -1,8 +1,8 @@
 -- What is proved of the meter, statement by statement, demand 3 first. Each is proved in proofs/ under its name in small letters (`register` is
 -- `RegisterBounds`).
 use mathlib.Core.Path.{_≡_}
-use mathlib.Core.List.{List, [], _∷_}
-use mathlib.Core.Bool.{true, false, not, cond, _&&_}
+use mathlib.Core.List.{List, [], _∷_, _++_}
+use mathlib.Core.Bool.{true, false, cond}
 use mathlib.Core.Logic.{_↔_, _⊎_}
 use Prim.Native.Nat.{ℕ, _+_, _*_, _≤_, _<_}
 use lib.Dec.{eqb}
@@ -18,7 +18,7 @@ use Rattle.meter.specs.Card.{cardRows}
 use Rattle.meter.specs.State.{freshOf, zeros, largestRegister, largestVolume, largestCount, mostSeconds}
 use Rattle.meter.specs.Sample.{hasVolume, supplyOf, returnOf, ts, tr, sampleHeat}
 use Rattle.meter.specs.Register.{registerOf, ownRegister, isSame}
-use Rattle.meter.specs.Step.{readingRows, isAboveQs, keptOf, stepOf}
+use Rattle.meter.specs.Step.{countRows, readingRows, isAboveQs, rangeRows, keptOf, stepOf}
 use Rattle.meter.specs.Sum.{Mark, isOwn, nothing, sumOf, allowanceOf, WithinBounds}
 use Rattle.meter.specs.Calls.{Calls, none, step, isAccepted}
 use Rattle.meter.specs.Run.{samplesOf, marksOf, lastOf}
@@ -56,7 +56,7 @@ OtherNothing =
     (r other : Register) (c : Card) (ks : List Mark) → isSame other r ≡ false → AllOwn r c ks →
     (sumOf other c ks ≡ nothing) × (allowanceOf other c ks ≡ 0)
 
--- It speaks of every list of samples: such calls exist, leave marks of these samples, and their marks and their last meter are the only ones.
+-- Demand 3 speaks of every list of samples: such calls exist, leave marks of these samples, and their marks and their last meter are the only ones.
 abbrev pub CallsExist : Type 0
 CallsExist = (m : Meter) (ss : List Sample) → Calls m (marksOf m ss) (lastOf m ss)
 
@@ -177,6 +177,12 @@ abbrev pub AcceptedHeat : Type 0
 AcceptedHeat =
     (m : Meter) (s : Sample) → isAccepted (stepOf m s .outcome) ≡ true → countsCold (m .edition) ≡ false → ownRegister (m .card) s ≡ Heat
 
+-- so in such an edition every accepted sample of the calls from a fresh meter is the heat register's own: its sum and its millijoules are those
+-- of all accepted samples, as document 01 has them, and the cold register's are 0 (`OtherNothing`)
+abbrev pub HeatOnly : Type 0
+HeatOnly =
+    (c : Card) (e : ℕ) (m : Meter) → freshOf c e ≡ FreshMeter.Made m → countsCold e ≡ false → (ks : List Mark) (z : Meter) → Calls m ks z → AllOwn Heat c ks
+
 -- the seconds of the accepted samples above q_s
 abbrev pub keptIn : Card → List Mark → ℕ
 keptIn c [] = 0
@@ -188,8 +194,8 @@ KeptSeconds =
     (c : Card) (e : ℕ) (m : Meter) → freshOf c e ≡ FreshMeter.Made m → (ks : List Mark) (z : Meter) → Calls m ks z → z .«kept_seconds» ≡ keptIn c ks
 
 -- a meter's state under an edition's number, with this in the cold register
-abbrev pub inEdition : ℕ → ℕ → Meter → Meter
-inEdition e cold m = record {
+abbrev pub underEdition : ℕ → ℕ → Meter → Meter
+underEdition e cold m = record {
   card = m .card;
   edition = e;
   register = m .register;
@@ -209,27 +215,30 @@ changed f a = record { meter = f (a .meter); outcome = a .outcome }
 abbrev pub HeatAsInEdition2 : Type 0
 HeatAsInEdition2 =
     (m : Meter) (cold : ℕ) (s : Sample) → cold ≤ largestRegister → isColder (ts (m .card) s) (tr (m .card) s) ≡ false →
-    stepOf (inEdition 3 cold m) s ≡ changed (inEdition 3 cold) (stepOf (inEdition 2 0 m) s)
+    stepOf (underEdition 3 cold m) s ≡ changed (underEdition 3 cold) (stepOf (underEdition 2 0 m) s)
 
 -- a meter's state under another edition's number
 abbrev pub withEdition : ℕ → Meter → Meter
-withEdition e m = inEdition e (m .«cold_register») m
+withEdition e m = underEdition e (m .«cold_register») m
 
--- two editions take a sample alike: each of the rows 36 and 39 refuses it in both or in neither
-pub record TakenAlike (e f : ℕ) (c : Card) (s : Sample) : Type 0 where
-  pub order : (not (countsCold e) && isColder (ts c s) (tr c s)) ≡ (not (countsCold f) && isColder (ts c s) (tr c s))
-  pub flow : (not (keepsSeconds e) && isAboveQs c s) ≡ (not (keepsSeconds f) && isAboveQs c s)
+-- the first of a sample's rows that are tried before its heat, 30 to 39, in an edition
+abbrev pub beforeHeat : ℕ → Card → Sample → Outcome
+beforeHeat e c s = firstOf (countRows c s ++ (readingRows c s ++ rangeRows e c s))
+
+-- two editions take a sample alike: it is the same in both
+abbrev pub TakenAlike : ℕ → ℕ → Card → Sample → Type 0
+TakenAlike e f c s = beforeHeat e c s ≡ beforeHeat f c s
 
 abbrev pub AllTakenAlike : ℕ → ℕ → Card → List Sample → Type 0
 AllTakenAlike e f c [] = Unit {0}
 AllTakenAlike e f c (s ∷ ss) = TakenAlike e f c s × AllTakenAlike e f c ss
 
--- where every sample is, a run in one edition answers each sample and ends as in the other, but for its edition
+-- where every sample is, a run in one edition accepts and refuses the same samples and ends as in the other, but for its edition
 pub record SameRun (c : Card) (e f : ℕ) (ss : List Sample) : Type 0 where
   pub marks : marksOf (zeros c e) ss ≡ marksOf (zeros c f) ss
   pub last : withEdition f (lastOf (zeros c e) ss) ≡ lastOf (zeros c f) ss
 
 abbrev pub EditionsAgree : Type 0
 EditionsAgree =
-    (c : Card) (e f : ℕ) (ss : List Sample) → isOtherEdition e ≡ false → isOtherEdition f ≡ false → firstOf (cardRows c) ≡ Accepted →
-    AllTakenAlike e f c ss → SameRun c e f ss
+    (c : Card) (e f : ℕ) (ss : List Sample) → isOtherEdition e ≡ false → isOtherEdition f ≡ false → AllTakenAlike e f c ss →
+    SameRun c e f ss

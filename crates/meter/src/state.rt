@@ -11,7 +11,7 @@ ghost use Rattle.quantity.specs.Refusals.{firstOf};
 ghost use Rattle.meter.specs.Step.{cardAndStateRows};
 ghost use mathlib.Core.Bool.{not, _&&_, _||_};
 ghost use lib.Dec.{ltb};
-ghost use Rattle.meter.specs.State.{freshRows, freshOf, stateRows, largestRegister, largestVolume, largestCount, misfitsEdition};
+ghost use Rattle.meter.specs.State.{freshRows, freshOf, stateRows, largestCount, passesLimitBy, misfitsEdition};
 
 // The limits of rows 20 and 21.
 pub(crate) const LARGEST_REGISTER: u64 = 999999999999999999;
@@ -97,7 +97,7 @@ fn state_refusal(m: Meter) -> Outcome
 
 // Whether row 20 meets the meter, its two counts being count together.
 fn is_state_refused(m: Meter, count: u64) -> bool
-    ensures { λ r. ⌜ r ≡ ((ltb largestRegister (m .register) || ltb largestRegister (m .«cold_register») || ltb largestVolume (m .volume) || ltb largestCount count) || misfitsEdition m) ⌝ }
+    ensures { λ r. ⌜ r ≡ (passesLimitBy m count || misfitsEdition m) ⌝ }
 {
     if passes_a_limit(m, count) {
         return true;
@@ -132,7 +132,7 @@ fn is_lacked(has: bool, number: u64) -> bool
 }
 
 fn passes_a_limit(m: Meter, count: u64) -> bool
-    ensures { λ r. ⌜ r ≡ (ltb largestRegister (m .register) || ltb largestRegister (m .«cold_register») || ltb largestVolume (m .volume) || ltb largestCount count) ⌝ }
+    ensures { λ r. ⌜ r ≡ passesLimitBy m count ⌝ }
 {
     if LARGEST_REGISTER < m.register {
         return true;

@@ -24,7 +24,8 @@ pub record TableBounds (w : Table) : Type 0 where
 abbrev pub WaterBounded : Type 0
 WaterBounded = TableBounds water
 
--- of a table so bounded H never falls, so that the difference of whole numbers H(ts)−H(tr) never stops at 0, and V is above zero
+-- of a table so bounded H never falls, so that the difference of whole numbers, H of the warmer less H of the colder, never stops at 0,
+-- and V is above zero
 abbrev pub EnthalpyInOrder : Type 0
 EnthalpyInOrder =
     (w : Table) → TableBounds w → (a b : Temperature) → b .0 ≤ a .0 → a .0 ≤ 100 * w .last → enthalpyAt w b ≤ enthalpyAt w a

@@ -6,7 +6,7 @@ pub enum Coefficient {
     Refused(u64),
 }
 
-// The heat of a volume in mJ, or the number of the refusal.
+// The heat of a volume in mJ, or its cold where the supply is the colder, or the number of the refusal.
 pub enum Heat {
     Millijoules(u64),
     Refused(u64),

@@ -1,11 +1,10 @@
 // The heat of a volume (document 01, "Meter's step"), and the cold of one (document 02, request 5).
 ghost use mathlib.Core.Path.{_≡_};
-ghost use mathlib.Core.Bool.{cond};
 ghost use Prim.Native.Nat.{_≤_};
-ghost use Rattle.quantity.specs.Units.{lastHundredth, isColder};
+ghost use Rattle.quantity.specs.Units.{lastHundredth};
 ghost use Rattle.water.specs.Table.{water};
 ghost use Rattle.quantity.specs.Fractions.{floored};
-ghost use Rattle.water.specs.Heat.{exactHeat, heatOf};
+ghost use Rattle.water.specs.Heat.{exactHeat, pairHeat, heatOf};
 use crate::answers::Heat;
 use crate::interpolation::enthalpy_rise;
 use crate::interpolation::volume_at;
@@ -23,18 +22,16 @@ pub fn heat(u: u64, ts: Temperature, tr: Temperature, place: u64) -> Heat
     let refusal = pair_refusal(ts, tr, place).or_row(1000000 < u, 31);
     match refusal {
         Outcome::Refused(number) => Heat::Refused(number),
-        Outcome::Accepted => {
-            let measured = at_place(place, ts, tr);
-            Heat::Millijoules(floored_between(u, ts, tr, measured))
-        }
+        Outcome::Accepted => Heat::Millijoules(floored_pair_heat(u, ts, tr, place)),
     }
 }
 
-// The supply's enthalpy less the return's, or exchanged where the supply is below the return.
-fn floored_between(u: u64, ts: Temperature, tr: Temperature, measured: Temperature) -> u64
-    requires { ⌜ (u ≤ 1000000) × (ts .0 ≤ lastHundredth) × (tr .0 ≤ lastHundredth) × (measured .0 ≤ lastHundredth) ⌝ }
-    ensures { λ r. ⌜ r ≡ floored (cond (isColder ts tr) (exactHeat water u tr ts measured) (exactHeat water u ts tr measured)) ⌝ }
+// The supply's enthalpy less the return's, or exchanged where the supply is below the return; the volume at the place either way.
+fn floored_pair_heat(u: u64, ts: Temperature, tr: Temperature, place: u64) -> u64
+    requires { ⌜ (u ≤ 1000000) × (ts .0 ≤ lastHundredth) × (tr .0 ≤ lastHundredth) ⌝ }
+    ensures { λ r. ⌜ r ≡ floored (pairHeat water u ts tr place) ⌝ }
 {
+    let measured = at_place(place, ts, tr);
     if ts.is_below(tr) {
         floored_heat(u, tr, ts, measured)
     } else {

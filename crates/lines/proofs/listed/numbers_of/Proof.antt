@@ -36,14 +36,8 @@ list-requires-3 c κs = search needs
 enum-known-line-3 : tie.Need-enum-known-line-3
 enum-known-line-3 c = search needs
 
-slice-aggregate-list-4 : tie.Need-slice-aggregate-list-4
-slice-aggregate-list-4 c = search needs
-
-totals-count-requires : tie.Need-totals-count-requires
-totals-count-requires c κs = search needs
-
-list-requires-4 : tie.Need-list-requires-4
-list-requires-4 c κs = search needs
+totals-listed-requires : tie.Need-totals-listed-requires
+totals-listed-requires c κs = search needs
 
 returns : tie.Need-returns
 unfolding kindOf countOf allNumbersOf
@@ -59,7 +53,7 @@ returns-3 c = rw (c .before .before .before .line2 .given .1) (c .list3 .ensures
 
 returns-4 : tie.Need-returns-4
 unfolding kindOf allNumbersOf
-returns-4 c = rw (c .before .before .before .before .line3 .given .1, ← c .before .totals-count .ensures .0) (c .list4 .ensures)
+returns-4 c = rw (c .before .before .line3 .given .1) (c .totals-listed .ensures)
 
 pub numbers-of-spec : {M : Type 1} → statement M
 numbers-of-spec =
@@ -75,9 +69,7 @@ numbers-of-spec =
     slice-aggregate-list-3
     list-requires-3
     enum-known-line-3
-    slice-aggregate-list-4
-    totals-count-requires
-    list-requires-4
+    totals-listed-requires
     returns
     returns-2
     returns-3

@@ -8,11 +8,10 @@ use borrow.Author.Tests.{ltb-false}
 use Rattle.quantity.specs.Refusals.{Row, row, firstOf}
 use Rattle.quantity.specs.declared.refusal.Outcome.the-variants.{Accepted}
 use Rattle.quantity.proofs.Rows.{none-applies}
-use Rattle.quantity.specs.Units.{lastHundredth}
 use Rattle.water.specs.Table.{water}
 use Rattle.water.specs.declared.answers.Heat.the-variants.{Millijoules}
-use Rattle.water.specs.Heat.{pairHeat, heatRows, heatOf}
-use Rattle.water.proofs.Passed.{rows-more, passed, at-place-at-most}
+use Rattle.water.specs.Heat.{heatRows, heatOf}
+use Rattle.water.proofs.Passed.{rows-more, passed}
 use Rattle.water.proofs.volume_heat.heat.Statement.{statement}
 use Rattle.water.proofs.volume_heat.heat.Tie as tie
 
@@ -40,18 +39,14 @@ enum-known-refusal c = search needs
 enum-told : tie.Need-enum-told
 enum-told c = search needs
 
-at-place-requires : tie.Need-at-place-requires
-at-place-requires c κs = search needs
-
-floored-between-requires : tie.Need-floored-between-requires
-floored-between-requires c κs =
-    let s = c .before .before .before .before .before in
+floored-pair-heat-requires : tie.Need-floored-pair-heat-requires
+floored-pair-heat-requires c κs =
+    let s = c .before .before .before .before in
     let a = s .args in
-    let p = passed water (a .ts) (a .tr) (a .place) (row 31 (ltb 1000000 (a .u)) ∷ []) (none-applies (rows s) (accepted (c .before))) in (
+    let p = passed water (a .ts) (a .tr) (a .place) (row 31 (ltb 1000000 (a .u)) ∷ []) (none-applies (rows s) (accepted c)) in (
       ltb-false 1000000 (a .u) (p .1 .0),
       p .0 .supply,
       p .0 .return,
-      rw (c .at-place .ensures) (at-place-at-most (a .place) (a .ts) (a .tr) lastHundredth (p .0 .supply) (p .0 .return)),
     )
 
 returns : tie.Need-returns
@@ -59,8 +54,8 @@ unfolding heatOf
 returns c = simp (heatOf, sym (outcome (c .before .before .before)) ∙ c .before .refusal .given .1)
 
 returns-2 : tie.Need-returns-2
-unfolding heatOf pairHeat
-returns-2 c = simp (heatOf, pairHeat, accepted (c .before .before), ← c .before .at-place .ensures) (ap Millijoules (c .floored-between .ensures))
+unfolding heatOf
+returns-2 c = simp (heatOf, accepted (c .before)) (ap Millijoules (c .floored-pair-heat .ensures))
 
 pub heat-spec : {M : Type 1} → statement M
 heat-spec =
@@ -70,7 +65,6 @@ heat-spec =
     or-row-requires
     enum-known-refusal
     enum-told
-    at-place-requires
-    floored-between-requires
+    floored-pair-heat-requires
     returns
     returns-2)
