@@ -177,8 +177,8 @@ abbrev pub AcceptedHeat : Type 0
 AcceptedHeat =
     (m : Meter) (s : Sample) → isAccepted (stepOf m s .outcome) ≡ true → countsCold (m .edition) ≡ false → ownRegister (m .card) s ≡ Heat
 
--- so in such an edition every accepted sample of the calls from a fresh meter is the heat register's own: its sum and its millijoules are those
--- of all accepted samples, as document 01 has them, and the cold register's are 0 (`OtherNothing`)
+-- so in such an edition every accepted sample of the calls from a fresh meter is the heat register's own, as in document 01: its sum leaves none
+-- out, and the cold register's is 0 (`OtherNothing`)
 abbrev pub HeatOnly : Type 0
 HeatOnly =
     (c : Card) (e : ℕ) (m : Meter) → freshOf c e ≡ FreshMeter.Made m → countsCold e ≡ false → (ks : List Mark) (z : Meter) → Calls m ks z → AllOwn Heat c ks
