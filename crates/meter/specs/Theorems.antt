@@ -242,3 +242,9 @@ abbrev pub EditionsAgree : Type 0
 EditionsAgree =
     (c : Card) (e f : ℕ) (ss : List Sample) → isOtherEdition e ≡ false → isOtherEdition f ≡ false → AllTakenAlike e f c ss →
     SameRun c e f ss
+
+-- and where the runs of two editions from the fresh meters of a card accept and refuse the same samples, they end alike but for the edition
+abbrev pub SameMarksAgree : Type 0
+SameMarksAgree =
+    (c : Card) (e f : ℕ) (m n : Meter) → freshOf c e ≡ FreshMeter.Made m → freshOf c f ≡ FreshMeter.Made n → (ss : List Sample) →
+    marksOf m ss ≡ marksOf n ss → withEdition f (lastOf m ss) ≡ lastOf n ss
