@@ -6,6 +6,7 @@ pub mod Stops
 pub mod Acceptance
 pub mod Readings
 pub mod Refusing
+pub mod Numbers
 pub mod Loop
 pub mod Nothing
 pub mod Turning
