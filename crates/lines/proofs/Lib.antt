@@ -9,8 +9,8 @@ pub mod LineBytes
 pub mod LineLaws
 mod Listing
 pub mod Openings
-mod Puts
-mod ReaderRows
+pub mod Puts
+pub mod ReaderRows
 pub mod Reports
 mod Runs
 mod Shown

@@ -73,7 +73,7 @@ unfolding putAt
 length-putAt xs at t h = simp (length-append, length-drop, length-take) (omega arith)
 
 -- one text after the other
-putAt-more : (xs : List ℕ) (at k : ℕ) (t u : List ℕ) → k ≡ at + length t → k ≤ length xs → putAt (putAt xs at t) k u ≡ putAt xs at (t ++ u)
+pub putAt-more : (xs : List ℕ) (at k : ℕ) (t u : List ℕ) → k ≡ at + length t → k ≤ length xs → putAt (putAt xs at t) k u ≡ putAt xs at (t ++ u)
 unfolding putAt
 putAt-more xs at k t u e h =
     let p : List ℕ = take at xs ++ t in

@@ -81,7 +81,7 @@ reads-line l rest w = by (l .edition) (l .line) w
     by e (L.End t) w = reads-later letterE (record { edition = e; line = L.End t }) rest (inr refl) refl refl w
 
 -- the buffer from the place on, after a text was put there
-put-from : (buf : List ℕ) (at : ℕ) (text : List ℕ) → at ≤ length buf → drop at (putAt buf at text) ≡ text ++ drop (at + length text) buf
+pub put-from : (buf : List ℕ) (at : ℕ) (text : List ℕ) → at ≤ length buf → drop at (putAt buf at text) ≡ text ++ drop (at + length text) buf
 unfolding putAt
 put-from buf at text h = drop-at (take at buf) (text ++ drop (at + length text) buf) at (length-take-le at buf h)
 

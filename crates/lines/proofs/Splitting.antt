@@ -1,8 +1,8 @@
 -- A line's bytes, split at its end and at its commas: joined fields are split again, and split bytes are joined again.
 -- Assumes nothing.
-use mathlib.Core.Path.{_≡_, refl, ap, _∙_}
+use mathlib.Core.Path.{_≡_, refl, sym, ap, _∙_}
 use mathlib.Core.Bool.{Bool, true, false, cond, not, _&&_, or-true}
-use mathlib.Core.List.{List, [], _∷_, _++_, append-nil}
+use mathlib.Core.List.{List, [], _∷_, _++_, append-assoc, append-nil, map}
 use Prim.Native.Nat.{ℕ, _+_}
 use native.Mathlib.Omega.{arith}
 use native.Mathlib.Numerals.{add-one}
@@ -11,9 +11,16 @@ use lib.ListN.{length, getD, drop}
 use borrow.Author.Tests.{eqb-true, not-true}
 use Rattle.quantity.proofs.Conditions.{both}
 use Rattle.lines.specs.Bytes.{lineFeed, comma}
+use Rattle.lines.specs.Number.{decimal}
 use Rattle.lines.specs.Line.{afterCommas}
 use Rattle.lines.specs.Reading.{untilEnd, isEnded, sizeOf, withFirst, split}
 use Rattle.lines.proofs.Decimals.{true-both}
+
+-- one number more behind others
+pub commas-snoc : (ns : List ℕ) (v : ℕ) → afterCommas (map decimal (ns ++ (v ∷ []))) ≡ afterCommas (map decimal ns) ++ (comma ∷ decimal v)
+unfolding afterCommas
+commas-snoc [] v = ap (λ (l : List ℕ). comma ∷ l) (append-nil (decimal v))
+commas-snoc (n ∷ ns) v = ap (λ (l : List ℕ). comma ∷ l) (rw (commas-snoc ns v) (sym (append-assoc (decimal n) (afterCommas (map decimal ns)) (comma ∷ decimal v))))
 
 -- the byte b is not among the bytes
 unfoldable pub lacks : ℕ → List ℕ → Bool

@@ -18,6 +18,7 @@ pub use line::Line;
 pub use line::MayCome;
 pub use line::Totals;
 pub use line::Written;
+pub use opening::OPENING_LENGTH;
 pub use reading::front_line;
 pub use reading::rest_after;
 pub use report::OutputLine;

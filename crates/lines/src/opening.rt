@@ -8,7 +8,7 @@ ghost use Rattle.meter.specs.Edition.{lastEdition};
 ghost use Rattle.lines.specs.Reading.{isSame, openedUpTo};
 ghost use Rattle.lines.specs.Line.{bytesOf, openingIn, openingLength};
 
-pub(crate) const OPENING_LENGTH: usize = 14;
+pub const OPENING_LENGTH: usize = 14;
 
 // The edition's opening: the fixed byte string, whose 0 holds the place of the edition's digit.
 fn opening_of(edition: u64) -> [u8; OPENING_LENGTH]
