@@ -1,5 +1,6 @@
 // Bytes given in hexadecimal.
 use crate::text::field_start;
+use libc::STDOUT_FILENO;
 ghost use Prim.Native.Nat.{_≤_};
 ghost use lib.ListN.{length};
 
@@ -40,4 +41,15 @@ fn digit(byte: u8) -> u8
         return byte - b'a' + 10;
     }
     0
+}
+
+// Writes bytes, two digits each.
+pub(crate) fn put_bytes(bytes: &[u8]) {
+    for i in 0..bytes.len() {
+        io::print_hex(STDOUT_FILENO, wide(bytes[i]), 2);
+    }
+}
+
+fn wide(byte: u8) -> u64 {
+    byte as u64
 }

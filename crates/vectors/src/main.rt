@@ -2,6 +2,7 @@
 // the same lines with the answers as the sources name them in the lines that begin with '#'.
 mod answers;
 mod archives;
+mod conversions;
 mod hexadecimal;
 mod meters;
 mod readers;
@@ -51,6 +52,7 @@ fn answer(line: &[u8]) {
             b'A' => archives::of_file(line),
             b'N' => archives::of_zeros(line),
             b'L' => writers::of_values(line),
+            b'E' => conversions::of_file(line),
             _ => {}
         }
     }
