@@ -1,4 +1,4 @@
-// Bytes given in hexadecimal.
+// Bytes in hexadecimal, read and written.
 use crate::text::field_start;
 use libc::STDOUT_FILENO;
 ghost use Prim.Native.Nat.{_≤_};
