@@ -6,8 +6,8 @@ use crate::text::number;
 use conversion::Converted;
 use libc::STDOUT_FILENO;
 
-// `E,` the edition that is converted from, 2 or 3, the size of the output buffer, at most 4096, and the bytes, at most 4096: N and the length, or X, the refusal
-// and its line, or X and 66; then the whole buffer, which began as points. No paper has an answer for another edition.
+// `E,` the edition that is converted from, 2 or 3, the size of the output buffer, at most 4096, and the bytes, at most 4096: N and the length, or
+// X, the refusal and its line, or X and 66; then the whole buffer, which began as points. No paper has an answer for another edition.
 pub(crate) fn of_file(line: &[u8]) {
     let from = number(line, 1);
     let size = number(line, 2) as usize;
