@@ -1,4 +1,6 @@
 // The audit of a whole archive (document 01, "Archive text" and the row "Line and audit").
+#![tactic(auto)]
+
 mod answer;
 mod auditing;
 mod printing;

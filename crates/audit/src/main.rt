@@ -1,4 +1,6 @@
 // The program `audit`: reads an archive on standard input and prints the audit's line (document 01, "Edges to try").
+#![tactic(auto)]
+
 mod input;
 
 ghost use Rattle.std.specs.Prelude.{◌≡◌, ◌≤◌, ◌<◌, length, take};

@@ -1,4 +1,6 @@
 // Files moved between editions 2 and 3 (document 02, request 6).
+#![tactic(auto)]
+
 mod answer;
 mod converting;
 mod examining;

@@ -1,4 +1,6 @@
 // The archive's lines (document 01, "Archive text"): the writer and the reader of one line; and the audit program's output line.
+#![tactic(auto)]
+
 mod fault;
 mod fields;
 mod held;

@@ -1,5 +1,7 @@
 // The meter: its card, its state, and the step that takes one sample (document 01, "Card" and "Meter's step"), by edition (document 02,
 // requests 2 and 5).
+#![tactic(auto)]
+
 mod card;
 mod edition;
 mod register;

@@ -1,4 +1,6 @@
 // Platinum resistance thermometers (IEC 60751): the sensor kinds and the temperature of a reading.
+#![tactic(auto)]
+
 mod curve;
 mod reading;
 mod search;

@@ -3,6 +3,7 @@ ghost use Rattle.std.specs.Prelude.{◌≡◌};
 ghost use Rattle.quantity.specs.Divisors.{largest_common_divisor};
 
 // Euclid's algorithm: the second number falls at each turn.
+#[tactic(auto, using(crate::proofs::Divisors::divisor_of_step))]
 pub(crate) fn largest_common_divisor(a: u64, b: u64) -> u64
     ensures { result ≡ largest_common_divisor a b }
 {

@@ -15,6 +15,7 @@ pub struct Fraction {
 
 impl Fraction {
     // The same fraction in lowest terms. With a zero denominator there is no fraction; two zeros, whose largest common divisor is 0, stay.
+    #[tactic(auto, using(crate::proofs::LowestTerms::zeros_stay), unfolding(crate::specs::Divisors::reduced))]
     pub fn reduced(self) -> Fraction
         ensures { result ≡ reduced self }
     {

@@ -1,5 +1,7 @@
 // What every crate shares: the units of temperature and of difference, exact fractions and their lowest terms, the refusal
 // table's rows, the numbers of a temperature's two ends, and the comparison of two products of 64-bit numbers.
+#![tactic(auto)]
+
 mod divisor;
 mod fraction;
 mod product;

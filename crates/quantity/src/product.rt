@@ -26,6 +26,7 @@ pub(crate) fn wide_product(a: u64, b: u64) -> Wide
 }
 
 // Whether a × b is less than c × d.
+#[tactic(auto, using(crate::proofs::Columns::by_low, crate::proofs::Columns::by_high))]
 pub fn product_less(a: u64, b: u64, c: u64, d: u64) -> bool
     ensures { result ≡ ltb (a * b) (c * d) }
 {

@@ -18,6 +18,7 @@ pub enum End {
 }
 
 // The number of a missed end. Each position has one for either end.
+#[tactic(auto, unfolding(crate::specs::Range::end_number))]
 pub fn end_number(position: Position, end: End) -> u64
     ensures { result ≡ end_number position end }
 {

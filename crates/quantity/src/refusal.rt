@@ -12,6 +12,7 @@ pub enum Outcome {
 
 impl Outcome {
     // The outcome after one row more: an earlier refusal stands; otherwise the row decides.
+    #[tactic(auto, unfolding(crate::specs::Refusals::or_row))]
     pub fn or_row(self, refuses: bool, number: u64) -> Outcome
         ensures { result ≡ or_row self refuses number }
     {
@@ -29,6 +30,7 @@ impl Outcome {
 }
 
 // Whether x lies outside low..high, a condition of many rows.
+#[tactic(auto, unfolding(crate::specs::Refusals::outside))]
 pub fn is_outside(x: u64, low: u64, high: u64) -> bool
     ensures { result ≡ outside x low high }
 {

@@ -33,6 +33,7 @@ impl Temperature {
     }
 
     // How far two temperatures lie apart, whichever is the larger.
+    #[tactic(auto, using(crate::proofs::Distance::upwards, crate::proofs::Distance::downwards))]
     pub fn distance(self, other: Temperature) -> Difference
         ensures { result ≡ distance_of self other }
     {

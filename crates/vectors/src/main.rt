@@ -1,5 +1,7 @@
 // Runs outside vectors: repeats each line of its input with the answer behind it. The file `stdout` beside src/ has
 // the same lines with the answers as the sources name them in the lines that begin with '#'.
+#![tactic(auto)]
+
 mod answers;
 mod archives;
 mod conversions;

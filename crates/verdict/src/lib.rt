@@ -1,5 +1,7 @@
 // The error verdict of a test bench: the maximum permissible errors of OIML R 75 for a heat meter and its
 // sub-assemblies, and whether an indicated value lies within them (document 01, "Error verdict"; document 02, request 4).
+#![tactic(auto)]
+
 mod bench;
 mod class;
 mod limit;

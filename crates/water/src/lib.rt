@@ -1,5 +1,7 @@
 // Water at 1.6 MPa (document 01, "Water table"): the table of IAPWS-IF97, the values between its entries, the heat
 // coefficient and the heat of a volume.
+#![tactic(auto)]
+
 mod answers;
 mod heat_coefficient;
 mod interpolation;
