@@ -19,6 +19,7 @@ pub fn report(space: &[u8], used: usize, limit: usize) -> OutputLine
     lines::report_line(found(space, used, limit))
 }
 
+#[tactic(auto, using(crate::proofs::Inputs::over, crate::proofs::Inputs::full, crate::proofs::Inputs::audited))]
 fn found(space: &[u8], used: usize, limit: usize) -> Report
     ensures { result ≡ report_in limit space.now used }
 {
@@ -31,6 +32,7 @@ fn found(space: &[u8], used: usize, limit: usize) -> Report
     of_audited(audit(&space[..used]))
 }
 
+#[tactic(auto, unfolding(crate::specs::Report::of_audited))]
 fn of_audited(answer: Audited) -> Report
     ensures { result ≡ of_audited answer }
 {

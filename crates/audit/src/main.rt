@@ -12,6 +12,7 @@ use libc::{STDIN_FILENO, STDOUT_FILENO};
 use lines::OutputLine;
 
 // "68 input over 65536 bytes": one byte more than that is read, to tell. After a failed read nothing is printed.
+#[tactic(auto, using(lines::proofs::Reports::within_bytes))]
 fn main() {
     let mut space = [0u8; AUDIT_LIMIT + 1];
     let got = input::read_all(STDIN_FILENO, &mut space);
@@ -24,6 +25,7 @@ fn main() {
 }
 
 // The line for what was read, the first used bytes of a space that is larger than the limit.
+#[tactic(auto, using(archive::proofs::Inputs::whole_input))]
 fn answer(space: &[u8], used: usize) -> OutputLine
     requires { (audit_limit < length space.now) × (used ≤ length space.now) }
     ensures value { result ≡ output_of (report_text (report_of audit_limit (take used space.now))) }

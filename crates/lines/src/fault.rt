@@ -16,6 +16,7 @@ pub(crate) fn fault_number(bytes: &[u8], letter: u8, count: usize) -> u64
 }
 
 // Whether the line is unended, its first field is not the letter alone, or it has not count numbers.
+#[tactic(auto, using(crate::proofs::Faults::misshapen_first, crate::proofs::Faults::misshapen_count))]
 fn is_misshapen(bytes: &[u8], letter: u8, count: usize) -> bool
     requires { Lettered letter bytes.now × (count ≤ most_numbers) }
     ensures { result ≡ is_misshapen (letter ∷ []) count bytes.now }
@@ -27,6 +28,7 @@ fn is_misshapen(bytes: &[u8], letter: u8, count: usize) -> bool
 }
 
 // Whether the first field goes on after the letter.
+#[tactic(auto, using(crate::proofs::Faults::alone_short, crate::proofs::Faults::alone_comma, crate::proofs::Faults::alone_by_end))]
 fn goes_on(bytes: &[u8], letter: u8) -> bool
     requires { Lettered letter bytes.now }
     ensures { result ≡ not (is_same (first_in bytes.now) (letter ∷ [])) }
@@ -41,6 +43,7 @@ fn goes_on(bytes: &[u8], letter: u8) -> bool
 }
 
 // How many fields the line has; 0 where it is not ended.
+#[tactic(auto, using(crate::proofs::Faults::counted_all, crate::proofs::Faults::counted_end, crate::proofs::Faults::counted_comma, crate::proofs::Faults::counted_other, crate::proofs::Faults::counted_out))]
 fn count_fields(bytes: &[u8]) -> usize
     ensures { result ≡ cond (is_ended bytes.now) (length (fields_in bytes.now)) 0 }
 {

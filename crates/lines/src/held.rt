@@ -6,7 +6,7 @@ use crate::line::{Front, MayCome};
 use crate::reading::{front_line, rest_of};
 
 // What stands at the front of the caller's bytes, and the part of them after it.
-#[derive(Drop)]
+#[derive(Clone, Copy)]
 pub struct ReadLine<'a> {
     pub front: Front,
     pub rest: &'a [u8],

@@ -2,7 +2,7 @@
 use meter::{Card, Sample};
 
 // What line E carries, in the papers' order: a meter's end state. Every edition's fields stand here; one that an edition lacks is zero.
-#[derive(Drop)]
+#[derive(Clone, Copy)]
 pub struct Totals {
     pub accepted: u64,
     pub refused: u64,
@@ -13,7 +13,7 @@ pub struct Totals {
 }
 
 // A line, by its kind. Any content can stand here.
-#[derive(Drop)]
+#[derive(Clone, Copy)]
 pub enum Line {
     Opening,
     Card(Card),
@@ -22,14 +22,14 @@ pub enum Line {
 }
 
 // What is read and written: a line in its edition. The opening names the edition; the other lines stand in that of their opening.
-#[derive(Drop)]
+#[derive(Clone, Copy)]
 pub struct EditionLine {
     pub edition: u64,
     pub line: Line,
 }
 
 // What may come, as the reader is told, with the edition of every line but the opening.
-#[derive(Drop)]
+#[derive(Clone, Copy)]
 pub enum MayCome {
     Opening,
     Card(u64),
@@ -37,14 +37,14 @@ pub enum MayCome {
 }
 
 // What stands at the front of some bytes: a line in its edition and how many bytes it takes, or the refusal's number.
-#[derive(Drop)]
+#[derive(Clone, Copy)]
 pub enum Front {
     Read(EditionLine, usize),
     Refused(u64),
 }
 
 // The place after the line that was written, or the refusal's number.
-#[derive(Drop)]
+#[derive(Clone, Copy)]
 pub enum Written {
     Next(usize),
     Refused(u64),

@@ -13,7 +13,7 @@ use meter::{CARD_FIELDS, counts_cold, keeps_seconds};
 pub(crate) const MOST_NUMBERS: usize = CARD_FIELDS;
 
 // The numbers that a line can have, the first count of these; and how many of them, from the first on, it has in its edition.
-#[derive(Drop)]
+#[derive(Clone, Copy)]
 pub(crate) struct Listed {
     pub count: usize,
     pub shown: usize,
@@ -21,6 +21,7 @@ pub(crate) struct Listed {
 }
 
 // The numbers of a line in its edition, in the papers' order.
+#[tactic(auto, unfolding(crate::specs::Line::kind_of, crate::specs::Line::count_of, crate::specs::Line::all_numbers_of, meter::specs::Card::fields_of))]
 pub(crate) fn numbers_of(what: EditionLine) -> Listed
     ensures { LineListed what result }
 {
@@ -54,6 +55,7 @@ pub(crate) fn numbers_of(what: EditionLine) -> Listed
 }
 
 // The numbers of line E in an edition.
+#[tactic(auto, unfolding(crate::specs::Line::kind_of, crate::specs::Line::all_numbers_of))]
 fn totals_listed(edition: u64, t: Totals) -> Listed
     ensures { LineListed (in_edition edition (End t)) result }
 {
@@ -71,6 +73,7 @@ fn totals_listed(edition: u64, t: Totals) -> Listed
 }
 
 // How many numbers line E has in an edition.
+#[tactic(auto, unfolding(crate::specs::Line::count_of))]
 pub(crate) fn totals_count(edition: u64) -> usize
     ensures { (result ≡ count_of edition totals) × (result ≤ most_later) }
 {
@@ -81,6 +84,7 @@ pub(crate) fn totals_count(edition: u64) -> usize
 }
 
 // The numbers, with zeros after them.
+#[tactic(auto, using(crate::proofs::Listing::list_more))]
 fn list(numbers: &[u64], shown: usize) -> Listed
     requires { (length numbers.now ≤ most_numbers) × (shown ≤ length numbers.now) }
     ensures { AreListed numbers.now shown result }
@@ -99,6 +103,7 @@ fn list(numbers: &[u64], shown: usize) -> Listed
 }
 
 // Whether one of the numbers is least or more.
+#[tactic(auto, using(crate::proofs::Listing::from_here, crate::proofs::Listing::from_later, crate::proofs::Listing::from_none))]
 pub(crate) fn has_from(numbers: &[u64], least: u64) -> bool
     ensures { result ≡ some_from least numbers.now }
 {
@@ -113,6 +118,7 @@ pub(crate) fn has_from(numbers: &[u64], least: u64) -> bool
 }
 
 // How many bytes the numbers take, each with the comma before it.
+#[tactic(auto, using(crate::proofs::Listing::summed_none, crate::proofs::Listing::summed_more, crate::proofs::Listing::summed_all))]
 pub(crate) fn fields_length(numbers: &[u64]) -> usize
     requires { length numbers.now ≤ most_numbers }
     ensures { (result ≡ length (after_commas (map decimal numbers.now))) × (result ≤ most_bytes most_numbers) }
@@ -127,6 +133,7 @@ pub(crate) fn fields_length(numbers: &[u64]) -> usize
 }
 
 // How many bytes the line's first field takes.
+#[tactic(auto, unfolding(crate::specs::Line::kind_of, crate::specs::Line::first_field))]
 pub(crate) fn first_length(line: Line) -> usize
     ensures { (result ≡ length (first_field (kind_of line))) × (result ≤ opening_length) }
 {

@@ -9,6 +9,7 @@ use meter::LAST_EDITION;
 pub const OPENING_LENGTH: usize = 14;
 
 // The edition's opening: the fixed byte string, whose 0 holds the place of the edition's digit.
+#[tactic(auto, using(crate::proofs::Openings::digit_bytes))]
 fn opening_of(edition: u64) -> [u8; OPENING_LENGTH]
     requires { edition ≤ last_edition }
     ensures { result ≡ bytes_of (opening_in edition) }
@@ -19,6 +20,7 @@ fn opening_of(edition: u64) -> [u8; OPENING_LENGTH]
 }
 
 // The edition whose opening stands at the front of bytes; 0 where none does.
+#[tactic(auto, using(crate::proofs::Openings::opened_here, crate::proofs::Openings::opened_below, crate::proofs::Openings::opened_none))]
 pub(crate) fn opened_edition(bytes: &[u8]) -> u64
     ensures { result ≡ opened_up_to last_edition bytes.now }
 {
@@ -33,6 +35,7 @@ pub(crate) fn opened_edition(bytes: &[u8]) -> u64
 }
 
 // Whether bytes begins with the edition's opening.
+#[tactic(auto, using(crate::proofs::Openings::digit_length))]
 fn is_opening(bytes: &[u8], edition: u64) -> bool
     requires { edition ≤ last_edition }
     ensures { result ≡ is_same (take opening_length bytes.now) (bytes_of (opening_in edition)) }
@@ -41,6 +44,7 @@ fn is_opening(bytes: &[u8], edition: u64) -> bool
 }
 
 // Puts the edition's opening at the front of part.
+#[tactic(auto, using(crate::proofs::Openings::digit_length))]
 pub(crate) fn put_opening(part: &mut [u8], edition: u64)
     requires { (opening_length ≤ length part.old) × (edition ≤ last_edition) }
     ensures { part.new ≡ bytes_of (opening_in edition) ++ drop opening_length part.old }
@@ -48,6 +52,7 @@ pub(crate) fn put_opening(part: &mut [u8], edition: u64)
     put_bytes(part, &opening_of(edition));
 }
 
+#[tactic(auto, using(crate::proofs::Same::begins_short, crate::proofs::Same::begins_more, crate::proofs::Same::begins_other, crate::proofs::Same::begins_all))]
 fn begins_with(bytes: &[u8], want: &[u8]) -> bool
     ensures { result ≡ is_same (take (length want.now) bytes.now) want.now }
 {
@@ -65,6 +70,7 @@ fn begins_with(bytes: &[u8], want: &[u8]) -> bool
 }
 
 // Puts from at the front of part.
+#[tactic(auto, using(crate::proofs::Puts::put_more))]
 fn put_bytes(part: &mut [u8], from: &[u8])
     requires { length from.now ≤ length part.old }
     ensures { part.new ≡ from.now ++ drop (length from.now) part.old }

@@ -20,6 +20,7 @@ use quantity::Outcome;
 const MOST_LATER: usize = 6;
 
 // What stands at the front of bytes, told what may come. Another edition is met before all else.
+#[tactic(auto, using(crate::proofs::ReaderRows::edition_refused, crate::proofs::ReaderRows::as_told, crate::proofs::ReaderRows::opening_told), unfolding(crate::specs::Reading::edition_in))]
 pub fn front_line(bytes: &[u8], may_come: MayCome) -> Front
     ensures { result ≡ read_of may_come bytes.now }
 {
@@ -35,6 +36,7 @@ pub fn front_line(bytes: &[u8], may_come: MayCome) -> Front
 }
 
 // The edition that is found in the opening, or that was told.
+#[tactic(auto, unfolding(crate::specs::Reading::edition_in))]
 fn edition_in(bytes: &[u8], may_come: MayCome) -> u64
     ensures { result ≡ edition_in may_come bytes.now }
 {
@@ -53,6 +55,7 @@ fn in_edition(edition: u64, line: Line) -> EditionLine
 }
 
 // The card's line.
+#[tactic(auto, using(crate::proofs::ReaderRows::lettered, crate::proofs::ReaderRows::card_other, crate::proofs::ReaderRows::card_all, crate::proofs::ReaderRows::card_none))]
 fn front_card(bytes: &[u8], edition: u64) -> Front
     requires { is_other_edition edition ≡ false }
     ensures { result ≡ read_of (M.Card edition) bytes.now }
@@ -79,6 +82,7 @@ fn first_byte(bytes: &[u8]) -> u8
 }
 
 // The card's own rows come after those of the line's shape.
+#[tactic(auto, unfolding(crate::specs::Reading::answer_of))]
 fn accepted_card(edition: u64, card: Card, n: usize) -> Front
     ensures { result ≡ answer_of (record { edition = edition; line = L.Card card }) n (first_of (card_rows card)) }
 {
@@ -90,6 +94,7 @@ fn accepted_card(edition: u64, card: Card, n: usize) -> Front
 }
 
 // A sample's line or the last, by its letter.
+#[tactic(auto, using(crate::proofs::ReaderRows::lettered, crate::proofs::ReaderRows::neither_read))]
 fn front_sample_or_end(bytes: &[u8], edition: u64) -> Front
     requires { is_other_edition edition ≡ false }
     ensures { result ≡ read_of (M.SampleOrEnd edition) bytes.now }
@@ -105,6 +110,7 @@ fn front_sample_or_end(bytes: &[u8], edition: u64) -> Front
 }
 
 // A line after the card's that begins with one of its two letters.
+#[tactic(auto, using(crate::proofs::ReaderRows::later_all, crate::proofs::ReaderRows::later_none, crate::proofs::Shown::zeros_left))]
 fn front_later(bytes: &[u8], edition: u64, letter: u8) -> Front
     requires { (is_other_edition edition ≡ false) × (Lettered letter bytes.now × LaterLetter letter) }
     ensures { result ≡ read_of (M.SampleOrEnd edition) bytes.now }
@@ -119,6 +125,7 @@ fn front_later(bytes: &[u8], edition: u64, letter: u8) -> Front
 }
 
 // How many numbers the line that a letter names has in an edition.
+#[tactic(auto, unfolding(crate::specs::Inside::Parts::later_kind, crate::specs::Line::count_of))]
 fn later_count(edition: u64, letter: u8) -> usize
     ensures { (result ≡ count_of edition (later_kind letter)) × (result ≤ most_later) }
 {
@@ -130,6 +137,7 @@ fn later_count(edition: u64, letter: u8) -> usize
 }
 
 // The line of the numbers that a letter names; where it has fewer of them than there are places, the others are zero.
+#[tactic(auto, unfolding(crate::specs::Line::line_of, crate::specs::Inside::Parts::later_kind))]
 fn line_of_later(letter: u8, f: [u64; MOST_LATER]) -> Line
     ensures { result ≡ line_of (later_kind letter) f }
 {
@@ -167,6 +175,7 @@ fn sample_from(f: [u64; MOST_LATER]) -> Sample
 }
 
 // The part of bytes after its first n.
+#[tactic(auto, using(crate::proofs::Lent::rest_all))]
 pub fn rest_after(bytes: &[u8], n: usize) -> &[u8]
     ensures { result.now ≡ drop n bytes.now }
 {
@@ -178,6 +187,7 @@ pub fn rest_after(bytes: &[u8], n: usize) -> &[u8]
 }
 
 // The part of bytes after the line that stands at its front; after a refused line, no bytes.
+#[tactic(auto, unfolding(crate::specs::Reading::rest_of))]
 pub(crate) fn rest_of(bytes: &[u8], front: Front) -> &[u8]
     ensures { result.now ≡ rest_of bytes.now front }
 {

@@ -15,7 +15,7 @@ const MOST_DIGITS_64: usize = 20;
 const LONGEST: usize = 1 + MOST_REPORTED * (1 + MOST_DIGITS_64) + 1;
 
 // What an audit found: the state that the file ends with, or the first refusal and its line.
-#[derive(Drop)]
+#[derive(Clone, Copy)]
 pub enum Report {
     EndState {
         serial: u64,
@@ -31,13 +31,14 @@ pub enum Report {
 }
 
 // The first length of the bytes are the line. It comes by value, so that no space of a caller can be too short for it.
-#[derive(Drop)]
+#[derive(Clone, Copy)]
 pub struct OutputLine {
     pub bytes: [u8; LONGEST],
     pub length: usize,
 }
 
 // The report's line.
+#[tactic(auto, unfolding(crate::specs::Report::report_text))]
 pub fn report_line(report: Report) -> OutputLine
     ensures value { result ≡ output_of (report_text report) }
     ensures length_le_longest_output { result.length ≤ longest_output }
@@ -55,6 +56,7 @@ pub fn report_line(report: Report) -> OutputLine
 }
 
 // The output line of a letter and numbers.
+#[tactic(auto, using(crate::proofs::Reports::line_within), unfolding(crate::specs::Report::output_of))]
 fn output_of(letter: u8, numbers: &[u64]) -> OutputLine
     requires { length numbers.now ≤ most_reported }
     ensures value { result ≡ output_of (text_of (letter ∷ []) numbers.now) }

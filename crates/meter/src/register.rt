@@ -6,7 +6,7 @@ use crate::state::Meter;
 use quantity::Temperature;
 
 // Which register is meant.
-#[derive(Drop)]
+#[derive(Clone, Copy)]
 pub enum Register {
     Heat,
     Cold,

@@ -21,7 +21,7 @@ pub(crate) const MOST_SECONDS: u64 = 3600;
 // A meter: its card, its edition, the heat register in mJ, the volume in mL, how many samples were accepted and refused, the seconds of
 // the accepted ones that flowed above q_s, and the cold register in mJ. Any content can stand here; the step refuses a card or a state that
 // a row from 10 to 21 meets.
-#[derive(Drop)]
+#[derive(Clone, Copy)]
 pub struct Meter {
     pub card: Card,
     pub edition: u64,
@@ -34,13 +34,14 @@ pub struct Meter {
 }
 
 // A fresh meter, or the refusal of its card or its edition.
-#[derive(Drop)]
+#[derive(Clone, Copy)]
 pub enum FreshMeter {
     Made(Meter),
     Refused(u64),
 }
 
 // The fresh meter of an accepted card in an edition: zeros.
+#[tactic(auto, unfolding(crate::specs::State::fresh_of))]
 pub fn fresh(card: Card, edition: u64) -> FreshMeter
     ensures { result ≡ fresh_of card edition }
 {
@@ -61,6 +62,7 @@ pub fn fresh(card: Card, edition: u64) -> FreshMeter
 }
 
 // The card's rows, then 20 for another edition.
+#[tactic(auto, using(quantity::proofs::Rows::accumulated, quantity::proofs::Rows::parts))]
 fn fresh_refusal(card: Card, edition: u64) -> Outcome
     ensures { result ≡ first_of (fresh_rows card edition) }
 {
@@ -72,6 +74,7 @@ fn fresh_refusal(card: Card, edition: u64) -> Outcome
 }
 
 // The rows of card and state, which come before those of a sample.
+#[tactic(auto, using(quantity::proofs::Rows::parts))]
 pub(crate) fn card_and_state_refusal(m: Meter) -> Outcome
     ensures { result ≡ first_of (card_and_state_rows m) }
 {
@@ -84,6 +87,7 @@ pub(crate) fn card_and_state_refusal(m: Meter) -> Outcome
 }
 
 // Rows 20 and 21.
+#[tactic(auto, using(quantity::proofs::Rows::accumulated, crate::proofs::Counts::passes, crate::proofs::Counts::equals), unfolding(crate::specs::State::state_rows))]
 fn state_refusal(m: Meter) -> Outcome
     ensures { result ≡ first_of (state_rows m) }
 {

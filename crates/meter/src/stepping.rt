@@ -16,7 +16,7 @@ use crate::state::{LARGEST_REGISTER, LARGEST_VOLUME, Meter, card_and_state_refus
 use quantity::{Outcome, Temperature};
 
 // The meter after a step, and no refusal or its number.
-#[derive(Drop)]
+#[derive(Clone, Copy)]
 pub struct Stepped {
     pub meter: Meter,
     pub outcome: Outcome,
@@ -25,6 +25,7 @@ pub struct Stepped {
 // Takes one sample. Refused by a row of card or state, the meter is unchanged; refused by a row of the sample, its refused count is one
 // more; accepted, the floored heat goes to the register whose own the sample is, the volume to the volume, the seconds of one above q_s to
 // the kept ones, and the accepted count is one more.
+#[tactic(auto, using(quantity::proofs::Rows::none_of_parts, crate::proofs::Stages::passed), unfolding(crate::specs::Step::step_of))]
 pub fn step(m: Meter, s: Sample) -> Stepped
     ensures { result ≡ step_of m s }
 {
@@ -38,6 +39,7 @@ pub fn step(m: Meter, s: Sample) -> Stepped
     }
 }
 
+#[tactic(auto, using(crate::proofs::Stages::passed, crate::proofs::Stages::goes_on, crate::proofs::Stages::stops, crate::proofs::Stages::countable))]
 fn take_sample(m: Meter, s: Sample) -> Stepped
     requires { BeforeSample m }
     ensures { result ≡ by_sample m s (first_of (sample_rows m s)) }
@@ -50,6 +52,7 @@ fn take_sample(m: Meter, s: Sample) -> Stepped
     }
 }
 
+#[tactic(auto, using(crate::proofs::Stages::goes_on, crate::proofs::Stages::stops, crate::proofs::Stages::countable), unfolding(crate::specs::Step::reading_rows))]
 fn take_readings(m: Meter, s: Sample) -> Stepped
     requires { CountsPass m s }
     ensures { result ≡ by_sample m s (first_of (reading_rows m.card s ++ (range_rows m.edition m.card s ++ limit_rows m s))) }
@@ -69,6 +72,7 @@ fn take_readings(m: Meter, s: Sample) -> Stepped
     }
 }
 
+#[tactic(auto, using(crate::proofs::Accepted::accepted_counts, crate::proofs::Stages::goes_on, crate::proofs::Stages::stops, crate::proofs::Stages::countable), unfolding(crate::specs::Sample::volume_of))]
 fn take_pair(m: Meter, s: Sample, supply: Temperature, returned: Temperature) -> Stepped
     requires { Compared m s supply returned }
     ensures { result ≡ by_sample m s (first_of (range_rows m.edition m.card s ++ limit_rows m s)) }
@@ -82,6 +86,7 @@ fn take_pair(m: Meter, s: Sample, supply: Temperature, returned: Temperature) ->
     }
 }
 
+#[tactic(auto, using(crate::proofs::Heats::of_sample, crate::proofs::Heats::same_heat, crate::proofs::Heats::never_refused, crate::proofs::Stages::countable))]
 fn take_heat(
     m: Meter,
     s: Sample,
@@ -101,6 +106,7 @@ fn take_heat(
     }
 }
 
+#[tactic(auto, using(crate::proofs::Registers::room_in_each, crate::proofs::Accepted::accepted_state, crate::proofs::Accepted::accepted_counts, crate::proofs::Accepted::kept_at_most, crate::proofs::Accepted::accepted_limits, crate::proofs::Stages::passed, crate::proofs::Stages::countable))]
 fn take_amounts(m: Meter, s: Sample, own: Register, heat: u64, volume: u64) -> Stepped
     requires { Heated m s own heat volume }
     ensures { result ≡ by_sample m s (first_of (limit_rows m s)) }
@@ -114,6 +120,7 @@ fn take_amounts(m: Meter, s: Sample, own: Register, heat: u64, volume: u64) -> S
 }
 
 // Rows 40 and 41, of a heat in mJ for the register whose own the sample is, and a volume in mL.
+#[tactic(auto, using(quantity::proofs::Rows::accumulated, crate::proofs::Accepted::accepted_card, crate::proofs::Accepted::accepted_state, crate::proofs::Accepted::accepted_counts, crate::proofs::Accepted::product_fits), unfolding(crate::specs::Step::limit_rows))]
 fn limit_refusal(m: Meter, s: Sample, own: Register, heat: u64, volume: u64) -> Outcome
     requires { Heated m s own heat volume }
     ensures { result ≡ first_of (limit_rows m s) }
@@ -126,6 +133,7 @@ fn limit_refusal(m: Meter, s: Sample, own: Register, heat: u64, volume: u64) -> 
 }
 
 // A sum can pass 64 bits, so what is added is compared with the room that is left.
+#[tactic(auto, using(quantity::proofs::Comparing::same_order))]
 fn passes_limits(register: u64, heat: u64, volume: u64, added: u64) -> bool
     requires { (register ≤ largest_register) × (volume ≤ largest_volume) }
     ensures { result ≡ (ltb largest_register (register + heat) || ltb largest_volume (volume + added)) }

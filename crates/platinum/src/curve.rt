@@ -7,6 +7,7 @@ ghost use Rattle.platinum.specs.Temperature.{W};
 pub(crate) const SHARE_AT_ZERO: u64 = 100000000000000;
 
 // W(t): the resistance at t as a share of that at 0 °C, in units of 10^-14.
+#[tactic(auto, using(crate::proofs::Growth::square), unfolding(crate::specs::Temperature::W))]
 pub(crate) fn share_at(t: u64) -> u64
     requires { t ≤ last_hundredth }
     ensures { result ≡ W t }

@@ -11,7 +11,7 @@ use crate::sensor::{Sensor, SensorField};
 use quantity::{End, LAST_HUNDREDTH, Outcome, Position, Temperature};
 
 // What a reading gives: its temperature; or the end of the range that it misses; or no sensor kind to read it by.
-#[derive(Drop)]
+#[derive(Clone, Copy)]
 pub enum Measured {
     At(Temperature),
     Outside(End),
@@ -20,6 +20,7 @@ pub enum Measured {
 
 // The temperature of a reading in 0.0001 ohm, of a sensor that a card's field names. Any numbers are answered; by itself the refusal is that
 // of the first row of "Temperature alone" that applies.
+#[tactic(auto, using(crate::proofs::Answer::by_itself, crate::proofs::Resistances::resistance_range), unfolding(crate::specs::Temperature::temperature_of))]
 pub fn temperature(field: u64, reading: u64) -> Measured
     ensures value { result ≡ temperature_of field reading }
     ensures result_value { refusal_of P.Alone result ≡ first_of (alone_rows field reading) }
@@ -32,6 +33,7 @@ pub fn temperature(field: u64, reading: u64) -> Measured
 }
 
 // A reading times 10^10 can pass 64 bits, so the two ends are compared as full products.
+#[tactic(auto, using(crate::proofs::Near::between_ends, crate::proofs::Shares::by_division), unfolding(crate::specs::Temperature::of_resistance, crate::specs::Temperature::W))]
 fn of_resistance(n: u64, reading: u64) -> Measured
     requires { (0 < n) × (n ≤ 1000) }
     ensures { result ≡ of_resistance n reading }
@@ -48,6 +50,7 @@ fn of_resistance(n: u64, reading: u64) -> Measured
 
 impl Measured {
     // No refusal where there is a temperature, and otherwise the number, by the place of the check.
+    #[tactic(auto, using(crate::proofs::Ends::outside_number), unfolding(crate::specs::Refusal::refusal_of))]
     pub fn refusal(self, position: Position) -> Outcome
         ensures { result ≡ refusal_of position self }
     {
@@ -59,6 +62,7 @@ impl Measured {
     }
 
     // The rows "has no temperature" alone, for a place where the sensor has been tested.
+    #[tactic(auto, using(crate::proofs::Ends::first_end), unfolding(quantity::specs::Refusals::first_of))]
     pub fn end_refusal(self, position: Position) -> Outcome
         ensures { result ≡ first_of (end_rows position self) }
     {

@@ -11,6 +11,7 @@ use crate::curve::{SHARE_AT_ZERO, share_at};
 const SLOPE: u64 = 3804350000;
 
 // The line's point for a share.
+#[tactic(auto, unfolding(crate::specs::Temperature::W, crate::specs::Line::line_point))]
 fn line_point(share: u64) -> u64
     requires { W 0 ≤ share }
     ensures { result ≡ line_point share }
@@ -29,6 +30,7 @@ fn try_at(share: u64, t: u64) -> u64
 }
 
 // Where the answer would be if the curve lay above the line everywhere by as much as it does at t.
+#[tactic(auto, using(crate::proofs::Line::curve_above_line, crate::proofs::Start::fits), unfolding(crate::specs::Temperature::W))]
 fn next_from(share: u64, t: u64) -> u64
     requires between_ends { BetweenEnds share × (t ≤ line_point share) }
     requires within { Within try_reach t (start_of share) }
@@ -39,6 +41,7 @@ fn next_from(share: u64, t: u64) -> u64
 }
 
 // Where the search begins. The line's point lies at most 1.24 °C above the answer; two tries from there save those between.
+#[tactic(auto, using(crate::proofs::Start::first_is_below, crate::proofs::Start::line_tried, crate::proofs::Start::first_tried), unfolding(crate::specs::Line::start_of))]
 fn start_of(share: u64) -> u64
     requires { BetweenEnds share }
     ensures { result ≡ start_of share }
@@ -49,6 +52,7 @@ fn start_of(share: u64) -> u64
 
 // The largest t whose share is at most the given one. The span that is searched is at first the start alone, which is not below the answer; it
 // grows downwards until it holds the answer.
+#[tactic(auto, using(crate::proofs::Shares::answer_of, crate::proofs::Shares::answer_largest, crate::proofs::Shares::above_answer, crate::proofs::Start::start_bounds))]
 pub(crate) fn largest_at_most(share: u64) -> u64
     requires { BetweenEnds share }
     ensures { result ≡ largest (λ t. leb (W t) share) last_hundredth }

@@ -3,7 +3,7 @@ ghost use Rattle.std.specs.Prelude.{◌≡◌};
 ghost use Rattle.platinum.specs.Sensor.{sensor_of, resistance_of};
 
 // A sensor kind, by its nominal resistance.
-#[derive(Drop)]
+#[derive(Clone, Copy)]
 pub enum Sensor {
     Pt100,
     Pt500,
@@ -11,7 +11,7 @@ pub enum Sensor {
 }
 
 // What a card's sensor field names.
-#[derive(Drop)]
+#[derive(Clone, Copy)]
 pub enum SensorField {
     Kind(Sensor),
     Unknown,
@@ -26,6 +26,7 @@ impl Sensor {
     pub const OHM_PT1000: u64 = 1000;
 
     // The kind that a card's field names by its resistance.
+    #[tactic(auto, unfolding(crate::specs::Sensor::sensor_of))]
     pub fn from_field(field: u64) -> SensorField
         ensures { result ≡ sensor_of field }
     {
@@ -42,6 +43,7 @@ impl Sensor {
     }
 
     // The resistance at 0 °C, in ohm.
+    #[tactic(auto, unfolding(crate::specs::Sensor::resistance_of))]
     pub fn resistance(self) -> u64
         ensures { result ≡ resistance_of self }
     {

@@ -2,7 +2,7 @@
 ghost use Rattle.std.specs.Prelude.{◌≡◌, ◌+◌, ◌*◌, ◌^◌, ltb};
 
 // A number of 128 bits.
-#[derive(Drop)]
+#[derive(Clone, Copy)]
 pub(crate) struct Wide {
     pub(crate) high: u64,
     pub(crate) low: u64,

@@ -3,7 +3,7 @@ ghost use Rattle.std.specs.Prelude.{◌≡◌};
 ghost use Rattle.quantity.specs.Range.{end_number};
 
 // Where a temperature is asked for: by itself, in the supply pipe, in the return pipe.
-#[derive(Drop)]
+#[derive(Clone, Copy)]
 pub enum Position {
     Alone,
     Supply,
@@ -11,7 +11,7 @@ pub enum Position {
 }
 
 // The end of the range that was missed.
-#[derive(Drop)]
+#[derive(Clone, Copy)]
 pub enum End {
     Low,
     High,

@@ -11,11 +11,11 @@ pub const LAST_DEGREE: u64 = 180;
 pub const LARGEST_KELVINS: u64 = 180;
 
 // A temperature in hundredths of a degree Celsius.
-#[derive(Drop)]
+#[derive(Clone, Copy)]
 pub struct Temperature(pub u64);
 
 // A temperature difference in hundredths of a kelvin.
-#[derive(Drop)]
+#[derive(Clone, Copy)]
 pub struct Difference(pub u64);
 
 impl Temperature {

@@ -13,7 +13,7 @@ use quantity::{Fraction, product_less};
 const LARGEST_VALUE: u64 = 999999999999;
 
 // The answer of the comparison and of the verdict.
-#[derive(Drop)]
+#[derive(Clone, Copy)]
 pub enum Verdict {
     Pass,
     Fail,
@@ -32,6 +32,7 @@ fn absolute_error(indicated: u64, conventional_true: u64) -> u64
 }
 
 // Whether the error lies within the limit. The two products compared pass 64 bits.
+#[tactic(auto, using(quantity::proofs::Comparing::not_below), unfolding(crate::specs::Verdict::passes, quantity::specs::Fractions::times))]
 fn is_within(limit: Fraction, indicated: u64, conventional_true: u64) -> bool
     requires { (indicated ≤ largest_value) × (conventional_true ≤ largest_value) }
     ensures { result ≡ passes limit indicated conventional_true }
@@ -41,6 +42,7 @@ fn is_within(limit: Fraction, indicated: u64, conventional_true: u64) -> bool
 }
 
 // What 55 asks of the two values.
+#[tactic(auto, unfolding(crate::specs::Rows::value_outside))]
 fn is_value_outside(indicated: u64, conventional_true: u64) -> bool
     ensures { result ≡ value_outside indicated conventional_true }
 {
@@ -54,6 +56,7 @@ fn is_value_outside(indicated: u64, conventional_true: u64) -> bool
 }
 
 // The condition of 55, "also for a zero denominator".
+#[tactic(auto, unfolding(crate::specs::Rows::incomparable))]
 fn is_incomparable(limit: Fraction, indicated: u64, conventional_true: u64) -> bool
     ensures { result ≡ incomparable limit indicated conventional_true }
 {
@@ -64,6 +67,7 @@ fn is_incomparable(limit: Fraction, indicated: u64, conventional_true: u64) -> b
 }
 
 // Whether the indicated value's error lies within a limit in percent, reduced or not, or 55.
+#[tactic(auto, using(crate::proofs::Comparisons::values_of), unfolding(crate::specs::Certificate::comparison_of, crate::specs::Verdict::refused_or, quantity::specs::Refusals::first_of))]
 pub fn compare_error(limit: Fraction, indicated: u64, conventional_true: u64) -> Verdict
     ensures { result ≡ comparison_of limit indicated conventional_true }
 {
@@ -78,6 +82,7 @@ pub fn compare_error(limit: Fraction, indicated: u64, conventional_true: u64) ->
 }
 
 // Whether the indicated value passes at the test point, or the first of the refusals 50 to 55.
+#[tactic(auto, using(crate::proofs::Certificate::from_pair))]
 pub fn error_verdict(point: TestPoint, indicated: u64, conventional_true: u64) -> Verdict
     ensures { result ≡ verdict_of point indicated conventional_true }
 {

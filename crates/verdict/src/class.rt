@@ -6,7 +6,7 @@ ghost use Rattle.verdict.specs.Limit.{figures_of};
 const FIXED_CAP: u64 = 500;
 
 // The three numbers of a flow sensor's limit, constant + factor × qp/q and at most cap, in hundredths of a percent.
-#[derive(Drop)]
+#[derive(Clone, Copy)]
 pub(crate) struct Figures {
     pub(crate) constant: u64,
     pub(crate) factor: u64,
@@ -14,6 +14,7 @@ pub(crate) struct Figures {
 }
 
 // The figures of classes 1 and 2, and of class 3, the only other one that is not refused.
+#[tactic(auto, unfolding(crate::specs::Limit::figures_of))]
 pub(crate) fn figures_of_class(class: u64) -> Figures
     ensures { result ≡ figures_of class }
 {

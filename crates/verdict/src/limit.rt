@@ -12,7 +12,7 @@ use crate::point::TestPoint;
 use quantity::{Fraction, Outcome};
 
 // The answer on a test point's limit.
-#[derive(Drop)]
+#[derive(Clone, Copy)]
 pub enum ErrorLimit {
     // in percent and in lowest terms
     Percent(Fraction),
@@ -32,6 +32,7 @@ fn flow_sensor_part(figures: Figures, qp: u64, q: u64) -> u64
 
 // The limit of the point's part at verification. The calculator's 0.5 + Δmin/Δ and the pair's 0.5 + 3×Δmin/Δ are counted
 // in 1/(2×D) percent, the flow sensor's in 1/(100×q): so each number fits 64 bits, for figures of up to 100 percent.
+#[tactic(auto, using(crate::proofs::Pieces::calculator, crate::proofs::Pieces::pair, crate::proofs::Pieces::flow_sensor, crate::proofs::Pieces::added, crate::proofs::Ranges::ranges, crate::proofs::Room::room), unfolding(crate::specs::Limit::part_limit))]
 fn part_limit(figures: Figures, point: TestPoint) -> Fraction
     requires { (FiguresFit figures) × (Admitted point) }
     ensures { (Represents result (part_limit figures point)) × (result.numerator ≤ 10 ^ 18) }
@@ -64,6 +65,7 @@ fn part_limit(figures: Figures, point: TestPoint) -> Fraction
 }
 
 // The limit at a stage, from the one at verification: in service, twice as much.
+#[tactic(auto, unfolding(quantity::specs::Fractions::times))]
 fn limit_at_stage(at_verification: Fraction, stage: u64) -> Fraction
     requires { at_verification.numerator ≤ 10 ^ 18 }
     ensures { result ≡ limit_at_stage stage at_verification }
@@ -79,6 +81,7 @@ fn limit_at_stage(at_verification: Fraction, stage: u64) -> Fraction
 }
 
 // The limit of a test point, or the first of the refusals 50 to 54.
+#[tactic(auto, using(crate::proofs::Certificate::limit_at_stage_lem, crate::proofs::Certificate::printed, crate::proofs::ClassFigures::figures_fit, crate::proofs::Ranges::ranges), unfolding(crate::specs::Certificate::error_limit_of, crate::specs::Certificate::refused_or_limit))]
 pub fn error_limit(point: TestPoint) -> ErrorLimit
     ensures { result ≡ error_limit_of point }
 {

@@ -10,7 +10,7 @@ const LARGEST_FLOW: u64 = 1000000000;
 
 // What is tested, and where: the inputs of document 01, "Error verdict", without the two values compared. Any
 // content can stand here: the limit, and so the verdict, refuses what is out of range.
-#[derive(Drop)]
+#[derive(Clone, Copy)]
 pub struct TestPoint {
     // 1 calculator, 2 temperature sensor pair, 3 flow sensor, 4 complete instrument
     pub part: u64,
@@ -27,6 +27,7 @@ pub struct TestPoint {
 }
 
 // The condition of 54.
+#[tactic(auto, unfolding(crate::specs::Rows::flow_outside))]
 fn is_flow_outside(qp: u64, q: u64) -> bool
     ensures { result ≡ flow_outside qp q }
 {
@@ -37,6 +38,7 @@ fn is_flow_outside(qp: u64, q: u64) -> bool
 }
 
 // The condition of 53. Δmin comes first: only a small one is counted in hundredths without passing 64 bits.
+#[tactic(auto, using(quantity::proofs::Conditions::inside), unfolding(crate::specs::Rows::difference_outside))]
 fn is_difference_outside(delta_min: u64, difference: Difference) -> bool
     ensures { result ≡ difference_outside delta_min difference }
 {
@@ -51,6 +53,7 @@ fn is_difference_outside(delta_min: u64, difference: Difference) -> bool
 
 impl TestPoint {
     // The first of the refusals 50 to 54.
+    #[tactic(auto, using(quantity::proofs::Rows::accumulated))]
     pub(crate) fn refusal(self) -> Outcome
         ensures { result ≡ first_of (point_rows self) }
     {

@@ -8,6 +8,7 @@ use crate::tables::{ENTHALPY, VOLUME};
 use quantity::Temperature;
 
 // Of any table's entries, at hundredths of a degree.
+#[tactic(auto, using(crate::proofs::Interpolated::below_last, crate::proofs::Interpolated::from_last))]
 pub(crate) fn interpolate(entries: &[u32], t: u64) -> u64
     requires { t < 100 * length entries.now }
     ensures { result ≡ interpolated (λ d. get_or entries.now d 0) (length entries.now - 1) t }
@@ -21,6 +22,7 @@ pub(crate) fn interpolate(entries: &[u32], t: u64) -> u64
 }
 
 // f hundredths of the way from one entry to the next.
+#[tactic(auto, using(crate::proofs::Interpolated::mixed_lies))]
 fn mixed(low: u32, high: u32, f: u64) -> u64
     requires { f < 100 }
     ensures { result ≡ (100 - f) * low + f * high }
@@ -29,6 +31,7 @@ fn mixed(low: u32, high: u32, f: u64) -> u64
 }
 
 // H(warm) − H(cold). The table is lent once for both.
+#[tactic(auto, using(crate::proofs::Entries::water_right, crate::proofs::Entries::enthalpy_between, crate::proofs::Bounds::water_bounded, crate::proofs::Properties::enthalpy_in_order), unfolding(crate::specs::Inside::Lists::enthalpies))]
 pub(crate) fn enthalpy_rise(warm: Temperature, cold: Temperature) -> u64
     requires { (cold.0 ≤ warm.0) × (warm.0 ≤ last_hundredth) }
     ensures { result ≡ enthalpy_at water warm - enthalpy_at water cold }
@@ -38,6 +41,7 @@ pub(crate) fn enthalpy_rise(warm: Temperature, cold: Temperature) -> u64
 }
 
 // V(t).
+#[tactic(auto, using(crate::proofs::Entries::water_right, crate::proofs::Entries::volume_between), unfolding(crate::specs::Inside::Lists::volumes))]
 pub(crate) fn volume_at(t: Temperature) -> u64
     requires { t.0 ≤ last_hundredth }
     ensures { result ≡ volume_at water t }

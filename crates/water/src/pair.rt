@@ -7,6 +7,7 @@ ghost use Rattle.water.specs.Pair.{at_place, are_equal, pair_rows};
 use quantity::{End, LAST_HUNDREDTH, Outcome, Position, Temperature, end_number, is_outside};
 
 // The temperature at the place.
+#[tactic(auto, unfolding(crate::specs::Pair::at_place))]
 pub(crate) fn at_place(place: u64, ts: Temperature, tr: Temperature) -> Temperature
     ensures { result ≡ at_place place ts tr }
 {
@@ -21,6 +22,7 @@ pub(crate) fn are_equal(a: Temperature, b: Temperature) -> bool
 }
 
 // The outcome of the rows that the coefficient and the heat of a volume have in common.
+#[tactic(auto, using(quantity::proofs::Rows::accumulated))]
 pub(crate) fn pair_refusal(ts: Temperature, tr: Temperature, place: u64) -> Outcome
     ensures { result ≡ first_of (pair_rows water ts tr place) }
 {

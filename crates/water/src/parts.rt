@@ -2,6 +2,7 @@
 ghost use Rattle.std.specs.Prelude.{◌≡◌, ◌*◌, ◌/◌, ◌^◌, ◌<◌};
 
 // k × a / b from the quotient and the remainder of a by b.
+#[tactic(auto, using(quantity::proofs::Floors::by_parts))]
 pub(crate) fn scaled_quotient(k: u64, a: u64, b: u64) -> u64
     requires { (0 < b) × (k * b < 2 ^ 64) × (k * a < 2 ^ 64 * b) }
     ensures { result ≡ k * a / b }
