@@ -1,7 +1,8 @@
 -- `platinum::search::largest_at_most` meets its contract. The loop's invariant: t lies between the answer and the start, and `start_bounds` says
 -- how near those are. Each turn, t falls.
-use Rattle.std.proofs.Common.{◌≡◌, ℕ, ◌+◌, ◌-◌, ◌*◌, ◌^◌, ◌<◌, ◌≤◌, length, take, drop, get_or, List, [], ◌∷◌, ◌++◌, true, false}
+use Rattle.std.proofs.Common.{◌≤◌}
 use Rattle.platinum.specs.Line.{start_of}
+use Rattle.platinum.proofs.Shares.{answer_of}
 use Rattle.platinum.proofs.search.largest_at_most.Given as goal
 
 abbrev pub invariant-loop-t : goal.invariant-loop-t
