@@ -10,4 +10,3 @@ invariant-loop-t l = (answer_of l.share ≤ l.t) × (l.t ≤ start_of l.share)
 
 abbrev pub decreases-loop-t : goal.decreases-loop-t
 decreases-loop-t l = l.t
-
