@@ -23,7 +23,7 @@ pub enum Measured {
 #[tactic(auto, using(crate::proofs::Answer::by_itself, crate::proofs::Resistances::resistance_range), unfolding(crate::specs::Temperature::temperature_of))]
 pub fn temperature(field: u64, reading: u64) -> Measured
     ensures value { result ≡ temperature_of field reading }
-    ensures result_value { refusal_of P.Alone result ≡ first_of (alone_rows field reading) }
+    ensures refusal { refusal_of P.Alone result ≡ first_of (alone_rows field reading) }
 {
     let kind = Sensor::from_field(field);
     match kind {
@@ -33,7 +33,7 @@ pub fn temperature(field: u64, reading: u64) -> Measured
 }
 
 // A reading times 10^10 can pass 64 bits, so the two ends are compared as full products.
-#[tactic(auto, using(crate::proofs::Near::between_ends, crate::proofs::Shares::by_division), unfolding(crate::specs::Temperature::of_resistance, crate::specs::Temperature::W))]
+#[tactic(auto, using(crate::proofs::Near::between_ends), unfolding(crate::specs::Temperature::of_resistance, crate::specs::Temperature::W))]
 fn of_resistance(n: u64, reading: u64) -> Measured
     requires { (0 < n) × (n ≤ 1000) }
     ensures { result ≡ of_resistance n reading }

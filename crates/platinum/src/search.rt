@@ -22,8 +22,8 @@ fn line_point(share: u64) -> u64
 // A try: the curve at t. Nothing else in the search works out the curve, so the checker shows of every try that it lies near the start. The share
 // tells which start that is.
 fn try_at(share: u64, t: u64) -> u64
-    requires t_le_last_hundredth { t ≤ last_hundredth }
-    requires within { Within try_reach t (start_of share) }
+    requires in_range { t ≤ last_hundredth }
+    requires near_start { Within try_reach t (start_of share) }
     ensures { result ≡ W t }
 {
     share_at(t)
@@ -33,7 +33,7 @@ fn try_at(share: u64, t: u64) -> u64
 #[tactic(auto, using(crate::proofs::Line::curve_above_line, crate::proofs::Start::fits), unfolding(crate::specs::Temperature::W))]
 fn next_from(share: u64, t: u64) -> u64
     requires between_ends { BetweenEnds share × (t ≤ line_point share) }
-    requires within { Within try_reach t (start_of share) }
+    requires near_start { Within try_reach t (start_of share) }
     ensures { result ≡ next_from share t }
 {
     let above_line = try_at(share, t) - (SHARE_AT_ZERO + SLOPE * t);
@@ -52,7 +52,7 @@ fn start_of(share: u64) -> u64
 
 // The largest t whose share is at most the given one. The span that is searched is at first the start alone, which is not below the answer; it
 // grows downwards until it holds the answer.
-#[tactic(auto, using(crate::proofs::Shares::answer_of, crate::proofs::Shares::answer_largest, crate::proofs::Shares::above_answer, crate::proofs::Start::start_bounds))]
+#[tactic(auto, using(crate::proofs::Shares::answer_largest, crate::proofs::Shares::above_answer, crate::proofs::Start::start_bounds))]
 pub(crate) fn largest_at_most(share: u64) -> u64
     requires { BetweenEnds share }
     ensures { result ≡ largest (λ t. leb (W t) share) last_hundredth }

@@ -3,8 +3,8 @@ use Rattle.std.proofs.Common.{arith}
 use Rattle.platinum.proofs.Start.{fits}
 use Rattle.platinum.proofs.search.next_from.Goals as goal
 
-pub try_at-requires-clause-t_le_last_hundredth : goal.try_at-requires-clause-t_le_last_hundredth
-try_at-requires-clause-t_le_last_hundredth c = (fits c.args.share c.args.t c.requires.between_ends.0 c.requires.between_ends.1).0
+pub try_at-requires-clause-in_range : goal.try_at-requires-clause-in_range
+try_at-requires-clause-in_range c = (fits c.args.share c.args.t c.requires.between_ends.0 c.requires.between_ends.1).0
 
 pub overflow_mul-above_line : goal.overflow_mul-above_line
 overflow_mul-above_line c = omega (arith, (fits c.args.share c.args.t c.requires.between_ends.0 c.requires.between_ends.1).0)
