@@ -1,0 +1,14 @@
+-- The capped count is above its limit, or equal to it, exactly where the counts together are.
+use Rattle.std.proofs.Common.{◌+◌}
+use Rattle.quantity.proofs.Rows.{accumulated}
+use Rattle.meter.specs.State.{state_rows, largest_count}
+use Rattle.meter.proofs.Counts.{passes, equals}
+use Rattle.meter.proofs.state.state_refusal.Goals as goal
+
+pub returns : goal.returns
+unfolding state_rows
+returns c =
+    let m = c.args.m in
+    let n = m.accepted + m.refused in
+    simp (c.or_row.ensures, c.or_row-r.ensures, c.is_state_refused.ensures, c.capped_count-count.ensures, passes largest_count n, equals largest_count n)
+    (accumulated (state_rows m))

@@ -1,0 +1,25 @@
+-- The two rows in order, of what the sample would add.
+use Rattle.quantity.proofs.Rows.{accumulated}
+use Rattle.meter.specs.Step.{limit_rows}
+use Rattle.meter.proofs.Accepted.{accepted_state}
+use Rattle.meter.proofs.stepping.limit_refusal.Goals as goal
+
+pub passes_limits-requires : goal.passes_limits-requires
+passes_limits-requires c =
+    let h = accepted_state c.args.m c.requires.counted.before_sample.state in
+    rw c.register_of.ensures (h.registers c.args.own, h.volume)
+
+pub returns : goal.returns
+unfolding limit_rows
+returns c =
+    let p = c.requires in
+    simp (
+      c.or_row.ensures,
+      c.passes_limits.ensures,
+      c.register_of.ensures,
+      c.or_row-r.ensures,
+      p.own_is,
+      p.heat_is,
+      p.volume_is,
+    )
+    (accumulated (limit_rows c.args.m c.args.s))
