@@ -1,10 +1,10 @@
 -- `lines::listed::fields_length` meets its contract. The loop's invariant is `Summed`.
-use Rattle.std.proofs.Common.{◌≡◌, ℕ, ◌+◌, ◌-◌, ◌*◌, ◌^◌, ◌<◌, ◌≤◌, length, take, drop, get_or, List, [], ◌∷◌, ◌++◌, true, false}
+use Rattle.std.proofs.Common.{◌-◌, length}
+use Rattle.lines.proofs.Listing.{Summed}
 use Rattle.lines.proofs.listed.fields_length.Given as goal
 
-abbrev pub invariant-loop : goal.invariant-loop
-invariant-loop l = Summed l.numbers l.sum l.i
+abbrev pub invariant-loop-i : goal.invariant-loop-i
+invariant-loop-i l = Summed l.numbers l.sum l.i
 
-abbrev pub decreases-loop : goal.decreases-loop
-decreases-loop l = length l.numbers - l.i
-
+abbrev pub decreases-loop-i : goal.decreases-loop-i
+decreases-loop-i l = length l.numbers - l.i
