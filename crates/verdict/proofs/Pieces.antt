@@ -8,7 +8,7 @@ use native.Mathlib.Nat.{le_of_lt, mul-le-mul}
 use native.Mathlib.Omega.{arith}
 use borrow.Author.Tests.{leb-true, leb-false}
 use Rattle.quantity.specs.Fractions.{◌over◌, plus, times, smaller, AtMost, is_at_most, Represents}
-use Rattle.verdict.specs.Limit.{calculator_limit, pair_limit, flow_sensor_sum, flow_sensor_limit, complete_limit}
+use Rattle.verdict.specs.Limit.{hundredths, calculator_limit, pair_limit, flow_sensor_sum, flow_sensor_limit, complete_limit}
 use Rattle.quantity.specs.declared.fraction.Fraction.{Fraction}
 use Rattle.verdict.specs.declared.class.Figures.{Figures}
 use Rattle.verdict.specs.declared.point.TestPoint.{TestPoint}
@@ -39,10 +39,10 @@ pub flow_sensor : (f : Figures) (p : TestPoint) (n : ℕ) → 0 < p.q → n ≡ 
 unfolding flow_sensor_limit flow_sensor_sum plus times
 flow_sensor f p n h e =
     either (Represents (n over 100 * p.q)) (flow_sensor_sum f p) _
-    (λ below.
+    (λ (below : AtMost (flow_sensor_sum f p) (hundredths f.cap)).
     let m : n ≡ f.constant * p.q + f.factor * p.qp = omega arith in
     rw m (record { is_fraction = omega arith; same = omega arith }))
-    (λ above.
+    (λ (above : AtMost (hundredths f.cap) (flow_sensor_sum f p)).
     let m : n ≡ f.cap * p.q = omega arith in
     rw m (record { is_fraction = omega arith; same = omega arith }))
 

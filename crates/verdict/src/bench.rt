@@ -82,7 +82,6 @@ pub fn compare_error(limit: Fraction, indicated: u64, conventional_true: u64) ->
 }
 
 // Whether the indicated value passes at the test point, or the first of the refusals 50 to 55.
-#[tactic(auto, using(crate::proofs::Certificate::from_pair))]
 pub fn error_verdict(point: TestPoint, indicated: u64, conventional_true: u64) -> Verdict
     ensures { result ≡ verdict_of point indicated conventional_true }
 {

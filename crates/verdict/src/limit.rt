@@ -32,7 +32,7 @@ fn flow_sensor_part(figures: Figures, qp: u64, q: u64) -> u64
 
 // The limit of the point's part at verification. The calculator's 0.5 + Δmin/Δ and the pair's 0.5 + 3×Δmin/Δ are counted
 // in 1/(2×D) percent, the flow sensor's in 1/(100×q): so each number fits 64 bits, for figures of up to 100 percent.
-#[tactic(auto, using(crate::proofs::Pieces::calculator, crate::proofs::Pieces::pair, crate::proofs::Pieces::flow_sensor, crate::proofs::Pieces::added, crate::proofs::Ranges::ranges, crate::proofs::Room::room), unfolding(crate::specs::Limit::part_limit))]
+#[tactic(auto, using(crate::proofs::Pieces::calculator, crate::proofs::Pieces::pair, crate::proofs::Pieces::flow_sensor, crate::proofs::Ranges::ranges, crate::proofs::Room::room), unfolding(crate::specs::Limit::part_limit))]
 fn part_limit(figures: Figures, point: TestPoint) -> Fraction
     requires { (FiguresFit figures) × (Admitted point) }
     ensures { (Represents result (part_limit figures point)) × (result.numerator ≤ 10 ^ 18) }

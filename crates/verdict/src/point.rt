@@ -53,7 +53,6 @@ fn is_difference_outside(delta_min: u64, difference: Difference) -> bool
 
 impl TestPoint {
     // The first of the refusals 50 to 54.
-    #[tactic(auto, using(quantity::proofs::Rows::accumulated))]
     pub(crate) fn refusal(self) -> Outcome
         ensures { result ≡ first_of (point_rows self) }
     {
