@@ -8,20 +8,18 @@ ghost use Rattle.lines.specs.Report.{report_text, longest_output, output_of};
 ghost use Rattle.archive.specs.Report.{audit_limit, report_of};
 
 use archive::AUDIT_LIMIT;
-use libc::{STDIN_FILENO, STDOUT_FILENO};
 use lines::OutputLine;
+use std::io;
 
 // "68 input over 65536 bytes": one byte more than that is read, to tell. After a failed read nothing is printed.
 #[tactic(auto, using(lines::proofs::Reports::within_bytes))]
-fn main() {
+fn main(rt: HostRuntime) -> io::Result<()> {
     let mut space = [0u8; AUDIT_LIMIT + 1];
-    let got = input::read_all(STDIN_FILENO, &mut space);
-    if !got.failed {
-        let line = answer(&space, got.size);
-        let bytes = line.bytes;
-        let n = line.length;
-        io::write_all(STDOUT_FILENO, &bytes[..n]);
-    }
+    let used = input::read_all(&mut rt.reader(), &mut space)?;
+    let line = answer(&space, used);
+    let bytes = line.bytes;
+    let n = line.length;
+    rt.write_all(&bytes[..n])
 }
 
 // The line for what was read, the first used bytes of a space that is larger than the limit.

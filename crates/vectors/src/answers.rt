@@ -1,16 +1,17 @@
 // What stands behind a line: a letter or a word and, where there is one, a number.
-use libc::STDOUT_FILENO;
 use quantity::Outcome;
+use std::io;
+use std::io::Write;
 
-pub(crate) fn put(head: &[u8], value: u64) {
-    io::write_all(STDOUT_FILENO, head);
-    io::print_decimal(STDOUT_FILENO, value);
+pub(crate) fn put(out: &mut impl Write, head: &[u8], value: u64) -> io::Result<()> {
+    out.write_all(head)?;
+    write!(out, "{value}")
 }
 
 // A refusal as X and its number; nothing where there is none.
-pub(crate) fn put_refusal(outcome: Outcome) {
+pub(crate) fn put_refusal(out: &mut impl Write, outcome: Outcome) -> io::Result<()> {
     match outcome {
-        Outcome::Accepted => {}
-        Outcome::Refused(number) => put(b",X,", number),
+        Outcome::Accepted => Ok(()),
+        Outcome::Refused(number) => put(out, b",X,", number),
     }
 }

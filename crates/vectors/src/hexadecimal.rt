@@ -2,7 +2,8 @@
 ghost use Rattle.std.specs.Prelude.{◌≤◌, length};
 
 use crate::text::field_start;
-use libc::STDOUT_FILENO;
+use std::io;
+use std::io::Write;
 
 // Puts the bytes behind the k-th comma of a line, its last field, at the front of buf, and answers how many they are.
 pub(crate) fn bytes_of(line: &[u8], k: usize, buf: &mut [u8]) -> usize
@@ -44,12 +45,9 @@ fn digit(byte: u8) -> u8
 }
 
 // Writes bytes, two digits each.
-pub(crate) fn put_bytes(bytes: &[u8]) {
-    for i in 0..bytes.len() {
-        io::print_hex(STDOUT_FILENO, wide(bytes[i]), 2);
+pub(crate) fn put_bytes(out: &mut impl Write, bytes: &[u8]) -> io::Result<()> {
+    for byte in bytes {
+        write!(out, "{byte:02x}")?;
     }
-}
-
-fn wide(byte: u8) -> u64 {
-    byte as u64
+    Ok(())
 }

@@ -14,48 +14,55 @@ mod verdicts;
 mod waters;
 mod writers;
 
-use libc::{STDIN_FILENO, STDOUT_FILENO};
+use std::io;
+use std::io::{BufWriter, Read, Write};
 
-fn main() {
-    let mut space = [0u8; 524288];
-    let n = io::read_full(STDIN_FILENO, &mut space);
-    run(&space[..n]);
+// The most bytes of an input that are read.
+const MOST_INPUT: u64 = 524288;
+
+fn main(rt: HostRuntime) -> io::Result<()> {
+    let mut input = Vec::new(rt.alloc());
+    rt.reader().take(MOST_INPUT).read_to_end(&mut input)?;
+    let mut out = BufWriter::new(rt.alloc(), io::writer(&rt))?;
+    run(&mut out, &input)?;
+    out.flush()
 }
 
-fn run(input: &[u8]) {
+fn run(out: &mut impl Write, input: &[u8]) -> io::Result<()> {
     let mut at = 0;
     while at < input.len() {
         let end = text::line_end(input, at);
-        answer(&input[at..end]);
+        answer(out, &input[at..end])?;
         at = end + 1;
     }
+    Ok(())
 }
 
 // The line's first byte names the operation that its numbers go to.
-fn answer(line: &[u8]) {
-    io::write_all(STDOUT_FILENO, line);
+fn answer(out: &mut impl Write, line: &[u8]) -> io::Result<()> {
+    out.write_all(line)?;
     if 0 < line.len() {
         let operation = line[0];
         match operation {
-            b'T' => temperatures::of_reading(line),
-            b'P' => temperatures::of_published(line),
-            b'K' => waters::of_pair(line),
-            b'W' => waters::of_degree(line),
-            b'Q' => waters::of_published(line),
-            b'F' => meters::of_card(line),
-            b'M' => meters::of_state(line),
-            b'V' => verdicts::of_point(line),
-            b'G' => verdicts::limit_at_point(line),
-            b'J' => verdicts::of_limit(line),
-            b'O' => readers::of_opening(line),
-            b'C' => readers::of_card(line),
-            b'S' => readers::of_sample_or_end(line),
-            b'A' => archives::of_file(line),
-            b'N' => archives::of_zeros(line),
-            b'L' => writers::of_values(line),
-            b'E' => conversions::of_file(line),
+            b'T' => temperatures::of_reading(out, line)?,
+            b'P' => temperatures::of_published(out, line)?,
+            b'K' => waters::of_pair(out, line)?,
+            b'W' => waters::of_degree(out, line)?,
+            b'Q' => waters::of_published(out, line)?,
+            b'F' => meters::of_card(out, line)?,
+            b'M' => meters::of_state(out, line)?,
+            b'V' => verdicts::of_point(out, line)?,
+            b'G' => verdicts::limit_at_point(out, line)?,
+            b'J' => verdicts::of_limit(out, line)?,
+            b'O' => readers::of_opening(out, line)?,
+            b'C' => readers::of_card(out, line)?,
+            b'S' => readers::of_sample_or_end(out, line)?,
+            b'A' => archives::of_file(out, line)?,
+            b'N' => archives::of_zeros(out, line)?,
+            b'L' => writers::of_values(out, line)?,
+            b'E' => conversions::of_file(out, line)?,
             _ => {}
         }
     }
-    io::write_all(STDOUT_FILENO, b"\n");
+    out.write_all(b"\n")
 }

@@ -5,10 +5,12 @@ use crate::answers::put;
 use crate::text::number;
 use meter::{Card, Meter, Sample};
 use quantity::Outcome;
+use std::io;
+use std::io::Write;
 
 // `M,` the card's twelve fields, the meter's state, then pulses, seconds, supply and return reading: the refusal or 0, then the state
 // afterwards. A state is register, volume, accepted, refused, edition, kept seconds and cold register.
-pub(crate) fn of_state(line: &[u8]) {
+pub(crate) fn of_state(out: &mut impl Write, line: &[u8]) -> io::Result<()> {
     let before = Meter {
         card: card_of(line, 0),
         register: number(line, 13),
@@ -23,20 +25,20 @@ pub(crate) fn of_state(line: &[u8]) {
     let outcome = stepped.outcome;
     let after = stepped.meter;
     match outcome {
-        Outcome::Accepted => put(b",", 0),
-        Outcome::Refused(refusal) => put(b",", refusal),
+        Outcome::Accepted => put(out, b",", 0)?,
+        Outcome::Refused(refusal) => put(out, b",", refusal)?,
     }
-    put_state(after);
+    put_state(out, after)
 }
 
-fn put_state(m: Meter) {
-    put(b",", m.register);
-    put(b",", m.volume);
-    put(b",", m.accepted);
-    put(b",", m.refused);
-    put(b",", m.edition);
-    put(b",", m.kept_seconds);
-    put(b",", m.cold_register);
+fn put_state(out: &mut impl Write, m: Meter) -> io::Result<()> {
+    put(out, b",", m.register)?;
+    put(out, b",", m.volume)?;
+    put(out, b",", m.accepted)?;
+    put(out, b",", m.refused)?;
+    put(out, b",", m.edition)?;
+    put(out, b",", m.kept_seconds)?;
+    put(out, b",", m.cold_register)
 }
 
 // The card whose fields stand behind so many other numbers of the line.
@@ -72,10 +74,10 @@ pub(crate) fn sample_of(line: &[u8], before: usize) -> Sample
 }
 
 // `F,` the card's twelve fields and the edition: the fresh meter's state, or X and the refusal.
-pub(crate) fn of_card(line: &[u8]) {
+pub(crate) fn of_card(out: &mut impl Write, line: &[u8]) -> io::Result<()> {
     let start = meter::fresh(card_of(line, 0), number(line, 13));
     match start {
-        meter::FreshMeter::Made(m) => put_state(m),
-        meter::FreshMeter::Refused(refusal) => put(b",X,", refusal),
+        meter::FreshMeter::Made(m) => put_state(out, m),
+        meter::FreshMeter::Refused(refusal) => put(out, b",X,", refusal),
     }
 }

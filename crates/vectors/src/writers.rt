@@ -2,18 +2,19 @@
 use crate::answers::put;
 use crate::meters::{card_of, sample_of};
 use crate::text::number;
-use libc::STDOUT_FILENO;
 use lines::{EditionLine, Line, Totals, Written};
+use std::io;
+use std::io::Write;
 
 // `L,` a kind (0 opening, 1 card, 2 sample, 3 last line), the edition, the bytes lent, the place, and the line's numbers: the next place, or
 // X and the refusal, then the whole space. The last line has every edition's numbers.
-pub(crate) fn of_values(line: &[u8]) {
+pub(crate) fn of_values(out: &mut impl Write, line: &[u8]) -> io::Result<()> {
     let kind = number(line, 1);
     match kind {
-        0 => put_line(line, Line::Opening),
-        1 => put_line(line, Line::Card(card_of(line, 4))),
-        2 => put_line(line, Line::Sample(sample_of(line, 4))),
-        _ => put_line(line, Line::End(totals_of(line))),
+        0 => put_line(out, line, Line::Opening),
+        1 => put_line(out, line, Line::Card(card_of(line, 4))),
+        2 => put_line(out, line, Line::Sample(sample_of(line, 4))),
+        _ => put_line(out, line, Line::End(totals_of(line))),
     }
 }
 
@@ -28,7 +29,7 @@ fn totals_of(line: &[u8]) -> Totals {
     }
 }
 
-fn put_line(line: &[u8], content: Line) {
+fn put_line(out: &mut impl Write, line: &[u8], content: Line) -> io::Result<()> {
     let mut space = [b'.'; 96];
     let what = EditionLine {
         edition: number(line, 2),
@@ -36,18 +37,25 @@ fn put_line(line: &[u8], content: Line) {
     };
     let size = number(line, 3) as usize;
     let at = number(line, 4) as usize;
-    put_written(&mut space, size, at, what);
-    io::write_all(STDOUT_FILENO, b",");
-    io::write_all(STDOUT_FILENO, &space);
+    put_written(out, &mut space, size, at, what)?;
+    out.write_all(b",")?;
+    out.write_all(&space)
 }
 
-fn put_written(space: &mut [u8], size: usize, at: usize, what: EditionLine) {
-    if size <= space.len() {
-        let start = space.len() - size;
-        let written = lines::write_line(&mut space[start..], at, what);
-        match written {
-            Written::Next(next) => put(b",", next as u64),
-            Written::Refused(number) => put(b",X,", number),
-        }
+fn put_written(
+    out: &mut impl Write,
+    space: &mut [u8],
+    size: usize,
+    at: usize,
+    what: EditionLine,
+) -> io::Result<()> {
+    if space.len() < size {
+        return Ok(());
+    }
+    let start = space.len() - size;
+    let written = lines::write_line(&mut space[start..], at, what);
+    match written {
+        Written::Next(next) => put(out, b",", next as u64),
+        Written::Refused(number) => put(out, b",X,", number),
     }
 }

@@ -1,10 +1,9 @@
--- `vectors::run` is safe and ends: each line begins past the one before it.
-use Rattle.std.proofs.Common.{◌≡◌, ℕ, ◌+◌, ◌-◌, ◌*◌, ◌^◌, ◌<◌, ◌≤◌, length, take, drop, get_or, List, [], ◌∷◌, ◌++◌, true, false}
+-- Each line begins past the one before it, at most one place behind the input's end.
+use Rattle.std.proofs.Common.{◌+◌, ◌-◌, ◌≤◌, length}
 use Rattle.vectors.proofs.run.Given as goal
 
-abbrev pub invariant-loop : goal.invariant-loop
-invariant-loop l = l.at ≤ length l.input + 1
+abbrev pub invariant-loop-at : goal.invariant-loop-at
+invariant-loop-at g l = l.at ≤ length l.input + 1
 
-abbrev pub decreases-loop : goal.decreases-loop
-decreases-loop l = length l.input + 1 - l.at
-
+abbrev pub decreases-loop-at : goal.decreases-loop-at
+decreases-loop-at g l = length l.input + 1 - l.at
