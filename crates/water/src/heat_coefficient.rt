@@ -12,7 +12,6 @@ use quantity::{Outcome, Temperature};
 
 // The coefficient in J/(m³ K) of a supply and a return temperature, with the volume measured at the place. Any content is
 // answered.
-#[tactic(auto, using(quantity::proofs::Rows::none_applies, crate::proofs::Passed::rows_more, crate::proofs::Passed::passed, crate::proofs::Passed::apart, crate::proofs::Passed::at_place_at_most), unfolding(crate::specs::Coefficient::coefficient_of))]
 pub fn coefficient(ts: Temperature, tr: Temperature, place: u64) -> Coefficient
     ensures { result ≡ coefficient_of water ts tr place }
 {
@@ -28,7 +27,7 @@ pub fn coefficient(ts: Temperature, tr: Temperature, place: u64) -> Coefficient
 }
 
 // The volume is measured at the third temperature. 10^11 is taken as 1000 × 10^8, so that no product passes 64 bits.
-#[tactic(auto, using(crate::proofs::Bounds::water_bounded, crate::proofs::Properties::enthalpy_at_most, crate::proofs::Properties::volume_lies), unfolding(quantity::specs::Units::distance_of, crate::specs::Coefficient::floored_coefficient))]
+#[tactic(auto, unfolding(crate::specs::Coefficient::floored_coefficient))]
 fn floored_coefficient(ts: Temperature, tr: Temperature, measured: Temperature) -> u64
     requires { (tr.0 < ts.0) × (ts.0 ≤ last_hundredth) × (measured.0 ≤ last_hundredth) }
     ensures { result ≡ floored_coefficient water ts tr measured }

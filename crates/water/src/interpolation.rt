@@ -31,7 +31,6 @@ fn mixed(low: u32, high: u32, f: u64) -> u64
 }
 
 // H(warm) − H(cold). The table is lent once for both.
-#[tactic(auto, using(crate::proofs::Entries::water_right, crate::proofs::Entries::enthalpy_between, crate::proofs::Bounds::water_bounded, crate::proofs::Properties::enthalpy_in_order), unfolding(crate::specs::Inside::Lists::enthalpies))]
 pub(crate) fn enthalpy_rise(warm: Temperature, cold: Temperature) -> u64
     requires { (cold.0 ≤ warm.0) × (warm.0 ≤ last_hundredth) }
     ensures { result ≡ enthalpy_at water warm - enthalpy_at water cold }
@@ -41,7 +40,6 @@ pub(crate) fn enthalpy_rise(warm: Temperature, cold: Temperature) -> u64
 }
 
 // V(t).
-#[tactic(auto, using(crate::proofs::Entries::water_right, crate::proofs::Entries::volume_between), unfolding(crate::specs::Inside::Lists::volumes))]
 pub(crate) fn volume_at(t: Temperature) -> u64
     requires { t.0 ≤ last_hundredth }
     ensures { result ≡ volume_at water t }

@@ -22,7 +22,6 @@ pub(crate) fn are_equal(a: Temperature, b: Temperature) -> bool
 }
 
 // The outcome of the rows that the coefficient and the heat of a volume have in common.
-#[tactic(auto, using(quantity::proofs::Rows::accumulated))]
 pub(crate) fn pair_refusal(ts: Temperature, tr: Temperature, place: u64) -> Outcome
     ensures { result ≡ first_of (pair_rows water ts tr place) }
 {

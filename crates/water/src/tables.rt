@@ -63,7 +63,7 @@ pub(crate) const VOLUME: [u32; ENTRIES] = [
 ];
 
 // The entry of a whole degree.
-#[tactic(auto, using(crate::proofs::Entries::water_right, crate::proofs::Bounds::water_bounded), unfolding(crate::specs::Inside::Lists::enthalpies, crate::specs::Inside::Lists::volumes, crate::specs::Table::entry_of))]
+#[tactic(auto, using(crate::proofs::Entries::water_right), unfolding(crate::specs::Inside::Lists::enthalpies, crate::specs::Inside::Lists::volumes, crate::specs::Table::entry_of))]
 pub fn table_entry(degree: u64) -> Entry
     ensures { result ≡ entry_of water degree }
 {

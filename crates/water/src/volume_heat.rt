@@ -13,7 +13,6 @@ use quantity::{Outcome, Temperature};
 
 // The floored heat in mJ of u mL between a supply and a return temperature, whichever is the warmer, with the volume measured at the
 // place. Any content is answered.
-#[tactic(auto, using(quantity::proofs::Rows::none_applies, crate::proofs::Passed::rows_more, crate::proofs::Passed::passed), unfolding(crate::specs::Heat::heat_of))]
 pub fn heat(u: u64, ts: Temperature, tr: Temperature, place: u64) -> Heat
     ensures { result ≡ heat_of water u ts tr place }
 {
@@ -39,7 +38,7 @@ fn floored_pair_heat(u: u64, ts: Temperature, tr: Temperature, place: u64) -> u6
 }
 
 // The volume is measured at the third temperature.
-#[tactic(auto, using(crate::proofs::Bounds::water_bounded, crate::proofs::Properties::enthalpy_at_most, crate::proofs::Properties::volume_lies), unfolding(crate::specs::Heat::exact_heat))]
+#[tactic(auto, unfolding(crate::specs::Heat::exact_heat))]
 fn floored_heat(u: u64, warm: Temperature, cold: Temperature, measured: Temperature) -> u64
     requires { (u ≤ 1000000) × (cold.0 ≤ warm.0) × (warm.0 ≤ last_hundredth) × (measured.0 ≤ last_hundredth) }
     ensures { result ≡ floored (exact_heat water u warm cold measured) }

@@ -1,9 +1,12 @@
 -- By the outcome of the rows: the pair's, then the volume's.
 use Rattle.std.proofs.Common.{◌≡◌, ℕ, List, [], ◌∷◌, ◌∙◌, sym, ap, ltb, ltb-false}
+use Rattle.quantity.specs.declared.units.Temperature.{Temperature}
+use Rattle.quantity.specs.declared.refusal.Outcome.{Outcome}
 use Rattle.quantity.specs.declared.refusal.Outcome.TheVariants.{Accepted}
-use Rattle.quantity.specs.Refusals.{Row, row, first_of}
+use Rattle.quantity.specs.Refusals.{Row, row, first_of, or_row}
 use Rattle.quantity.proofs.Rows.{none_applies}
 use Rattle.water.specs.Table.{water}
+use Rattle.water.specs.Pair.{pair_rows}
 use Rattle.water.specs.declared.answers.Heat.TheVariants.{Millijoules}
 use Rattle.water.specs.Heat.{heat_rows, heat_of}
 use Rattle.water.proofs.Passed.{rows_more, passed}
@@ -13,12 +16,18 @@ use Rattle.water.proofs.volume_heat.heat.Goals as goal
 abbrev last : ℕ → List Row
 last u = row 31 (ltb 1000000 u) ∷ []
 
+-- the code takes one row after another, and its outcome is the first row's that applies
+outcome :
+    (u : ℕ) (ts tr : Temperature) (place : ℕ) {first second : Outcome} →
+    first ≡ first_of (pair_rows water ts tr place) → second ≡ or_row first (ltb 1000000 u) 31 →
+    second ≡ first_of (heat_rows water u ts tr place)
+outcome u ts tr place d e = simp (e, d) (rows_more water ts tr place (last u))
+
 pub floored_pair_heat-requires : goal.floored_pair_heat-requires
 floored_pair_heat-requires c =
     let a = c.args in
-    let outcome : c.or_row-refusal.result ≡ first_of (heat_rows water a.u a.ts a.tr a.place) =
-    simp (c.or_row-refusal.ensures, c.pair_refusal.ensures) (rows_more water a.ts a.tr a.place (last a.u)) in
-    let accepted : first_of (heat_rows water a.u a.ts a.tr a.place) ≡ Accepted = sym outcome ∙ c.in-Accepted.is in
+    let accepted : first_of (heat_rows water a.u a.ts a.tr a.place) ≡ Accepted =
+    sym (outcome a.u a.ts a.tr a.place c.pair_refusal.ensures c.or_row-refusal.ensures) ∙ c.in-Accepted.is in
     let p = passed water a.ts a.tr a.place (last a.u) (none_applies (heat_rows water a.u a.ts a.tr a.place) accepted) in
     (ltb-false 1000000 a.u p.1.0, p.0.supply, p.0.return)
 
@@ -26,14 +35,11 @@ pub returns-in-Refused : goal.returns-in-Refused
 unfolding heat_of
 returns-in-Refused c =
     let a = c.args in
-    let outcome : c.or_row-refusal.result ≡ first_of (heat_rows water a.u a.ts a.tr a.place) =
-    simp (c.or_row-refusal.ensures, c.pair_refusal.ensures) (rows_more water a.ts a.tr a.place (last a.u)) in
-    simp (heat_of, sym outcome ∙ c.in-Refused.is)
+    simp (heat_of, sym (outcome a.u a.ts a.tr a.place c.pair_refusal.ensures c.or_row-refusal.ensures) ∙ c.in-Refused.is)
 
 pub returns-in-Accepted : goal.returns-in-Accepted
 unfolding heat_of
 returns-in-Accepted c =
     let a = c.args in
-    let outcome : c.or_row-refusal.result ≡ first_of (heat_rows water a.u a.ts a.tr a.place) =
-    simp (c.or_row-refusal.ensures, c.pair_refusal.ensures) (rows_more water a.ts a.tr a.place (last a.u)) in
-    simp (heat_of, sym outcome ∙ c.in-Accepted.is) (ap Millijoules c.floored_pair_heat.ensures)
+    simp (heat_of, sym (outcome a.u a.ts a.tr a.place c.pair_refusal.ensures c.or_row-refusal.ensures) ∙ c.in-Accepted.is)
+    (ap Millijoules c.floored_pair_heat.ensures)
