@@ -1,13 +1,16 @@
 // Reading all of an input that may be longer than the space for it. A failed read is told apart from the input's end, since a file that
 // is cut short there would be another file.
-ghost use Rattle.std.specs.Prelude.{◌≤◌, length, IfOk};
+ghost use Rattle.std.specs.Prelude.{◌<◌, ◌≤◌, length, take, IfOk};
+ghost use Rattle.std.specs.Io.KnownBytes.{Consumes, IsAtEnd};
 
 use std::io;
 use std::io::Read;
 
 // How many bytes stand at the start of the space.
-pub(crate) fn read_all(input: &mut impl Read, buf: &mut [u8]) -> io::Result<usize>
-    ensures { IfOk result (λ size. size ≤ length buf.new) }
+pub(crate) fn read_all<R: Read>(input: &mut R, buf: &mut [u8]) -> io::Result<usize>
+    ensures size { IfOk result (λ size. size ≤ length buf.new) }
+    ensures bytes { IfOk result (λ size. Consumes (R.remaining input.old) (R.remaining input.new) (take size buf.new)) }
+    ensures end { IfOk result (λ size. size < length buf.new → IsAtEnd (R.remaining input.new)) }
 {
     let mut done = 0;
     while done < buf.len() {

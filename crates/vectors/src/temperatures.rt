@@ -20,9 +20,24 @@ pub(crate) fn of_reading(out: &mut impl Write, line: &[u8]) -> io::Result<()> {
 pub(crate) fn of_published(out: &mut impl Write, line: &[u8]) -> io::Result<()> {
     let degree = number(line, 1) % 1000;
     let resistance = number(line, 2) % 1000000;
-    of_kind(out, Sensor::OHM_PT100, resistance * Sensor::OHM_PT100, degree)?;
-    of_kind(out, Sensor::OHM_PT500, resistance * Sensor::OHM_PT500, degree)?;
-    of_kind(out, Sensor::OHM_PT1000, resistance * Sensor::OHM_PT1000, degree)
+    of_kind(
+        out,
+        Sensor::OHM_PT100,
+        resistance * Sensor::OHM_PT100,
+        degree,
+    )?;
+    of_kind(
+        out,
+        Sensor::OHM_PT500,
+        resistance * Sensor::OHM_PT500,
+        degree,
+    )?;
+    of_kind(
+        out,
+        Sensor::OHM_PT1000,
+        resistance * Sensor::OHM_PT1000,
+        degree,
+    )
 }
 
 fn of_kind(out: &mut impl Write, ohm: u64, reading: u64, degree: u64) -> io::Result<()> {

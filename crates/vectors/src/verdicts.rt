@@ -21,7 +21,10 @@ fn point_of(line: &[u8]) -> TestPoint {
 
 // `V,part,class,stage,delta min,difference,qp,q,indicated,conventional true value`: the verdict.
 pub(crate) fn of_point(out: &mut impl Write, line: &[u8]) -> io::Result<()> {
-    put_verdict(out, verdict::error_verdict(point_of(line), number(line, 8), number(line, 9)))
+    put_verdict(
+        out,
+        verdict::error_verdict(point_of(line), number(line, 8), number(line, 9)),
+    )
 }
 
 // `J,indicated,conventional true value,numerator,denominator`: the comparison's answer.
@@ -30,7 +33,10 @@ pub(crate) fn of_limit(out: &mut impl Write, line: &[u8]) -> io::Result<()> {
         numerator: number(line, 3),
         denominator: number(line, 4),
     };
-    put_verdict(out, verdict::compare_error(limit, number(line, 1), number(line, 2)))
+    put_verdict(
+        out,
+        verdict::compare_error(limit, number(line, 1), number(line, 2)),
+    )
 }
 
 // V and 1 for a pass or 0 for a fail, or X and the refusal.
