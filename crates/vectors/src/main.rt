@@ -6,6 +6,7 @@ mod answers;
 mod archives;
 mod conversions;
 mod hexadecimal;
+mod input;
 mod meters;
 mod readers;
 mod temperatures;
@@ -15,17 +16,20 @@ mod waters;
 mod writers;
 
 use std::io;
-use std::io::{BufWriter, Read, Write};
+use std::io::Write;
 
 // The most bytes of an input that are read.
-const MOST_INPUT: u64 = 524288;
+const MOST_INPUT: usize = 524288;
 
 fn main(rt: HostRuntime) -> io::Result<()> {
-    let mut input = Vec::new(rt.alloc());
-    rt.reader().take(MOST_INPUT).read_to_end(&mut input)?;
-    let mut out = BufWriter::new(rt.alloc(), io::writer(&rt))?;
-    run(&mut out, &input)?;
-    out.flush()
+    let mut space = empty_space();
+    let size = input::read_full(&mut rt.reader(), &mut space)?;
+    run(&mut io::writer(&rt), &space[..size])
+}
+
+// Apart from `main`, where the checker would count so many zeros one by one.
+fn empty_space() -> [u8; MOST_INPUT] {
+    [0; MOST_INPUT]
 }
 
 fn run(out: &mut impl Write, input: &[u8]) -> io::Result<()> {
