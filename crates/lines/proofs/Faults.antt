@@ -74,6 +74,9 @@ module _ (bs : List ℕ) (k i : ℕ) (c : CountedTo bs k i) where
   unfolding fields_from
   counted_out h = c ∙ rw (drop_of_length-le bs h)
 
+-- for `count_fields`
+pub ruleset counting = (counted_all, counted_end, counted_comma, counted_other, counted_out)
+
 -- ---- the first field
 
 pub first_of_lem : (b : ℕ) (l : List (List ℕ)) → Parted l → get_or (with_first b l) 0 [] ≡ b ∷ get_or l 0 []

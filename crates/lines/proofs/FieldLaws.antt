@@ -3,11 +3,11 @@
 use mathlib.Core.Path.{◌≡◌, refl, sym, ap, ◌∙◌}
 use mathlib.Core.Bool.{true, false}
 use mathlib.Core.List.{List, [], ◌∷◌, ◌++◌, append-nil}
-use Prim.Native.Nat.{ℕ, ◌+◌, ◌^◌, ◌≤◌, ◌<◌}
+use Prim.Native.Nat.{ℕ, ◌+◌, ◌-◌, ◌^◌, ◌≤◌, ◌<◌}
 use native.Mathlib.Omega.{arith}
 use native.Mathlib.Numerals.{add-one}
 use lib.Dec.{eqb}
-use lib.ListN.{length, get_or, drop, length-append}
+use lib.ListN.{length, get_or, take, drop, length-append}
 use borrow.Author.Tests.{eq-eqb, ne_eqb, eqb-true}
 use Rattle.quantity.proofs.Conditions.{both}
 use Rattle.lines.specs.Bytes.{comma}
@@ -15,6 +15,7 @@ use Rattle.lines.specs.Number.{decimal, is_digit, are_digits, value_of, is_numbe
 use Rattle.lines.specs.Inside.Parts.{digits_at, number_at, one_more, field_at}
 use Rattle.lines.specs.declared.number.Field.{Field}
 use Rattle.lines.specs.declared.number.Field.TheVariants.{Number, Missing}
+use Rattle.lines.proofs.Lent.{rest_all}
 use Rattle.lines.proofs.Decimals.{decimal_digits, decimal_is_number, value_decimal, number_decimal, number_small}
 
 -- ---- by the tests
@@ -33,6 +34,19 @@ pub field_comma : (bs : List ℕ) → get_or bs 0 0 ≡ comma → field_at bs �
 unfolding field_at
 field_comma [] h = absurd (let z : ◌≡◌ {A = ℕ} 0 comma = h in omega arith)
 field_comma (b ∷ bs) h = simp (eq-eqb b comma h)
+
+-- after the comma all the rest was lent on, to what read a number there or none
+module _ (bs : List ℕ) (h : get_or bs 0 0 ≡ comma) (f : Field) (e : f ≡ number_at (take (length bs - 1) (drop 1 bs))) where
+  field_of : field_at bs ≡ one_more f
+  field_of = field_comma bs h ∙ ap one_more (sym (e ∙ ap number_at (rest_all bs 1)))
+
+  pub field_number : (v n : ℕ) → f ≡ Number v n → Number v (n + 1) ≡ field_at bs
+  unfolding one_more
+  field_number v n k = sym (field_of ∙ ap one_more k)
+
+  pub field_missing : f ≡ Missing → Missing ≡ field_at bs
+  unfolding one_more
+  field_missing k = sym (field_of ∙ ap one_more k)
 
 -- ---- a number
 
@@ -128,3 +142,6 @@ pub number_within : (bs : List ℕ) (v n : ℕ) → number_at bs ≡ Number v n 
 number_within bs v n h =
     let k = number_forth bs v n h in
     omega (arith, k.counted, ap length k.front ∙ length-append (decimal v) (drop n bs))
+
+-- for `read_field`
+pub ruleset by_front = (field_other, field_number, field_missing, number_within)

@@ -61,11 +61,11 @@ pub width_small : (x : ℕ) → x < 2 ^ 64 → length (decimal x) ≤ most_digit
 width_small x h = decimal_short x most_digits64 (omega arith) (omega arith)
 
 module _ (ns : List ℕ) (sum i : ℕ) (c : Summed ns sum i) where
-  pub summed_more : i < length ns → get_or ns i 0 < 2 ^ 64 → Summed ns (sum + (length (decimal (get_or ns i 0)) + 1)) (i + 1)
-  summed_more h g =
+  pub summed_more : (w : ℕ) → w ≡ length (decimal (get_or ns i 0)) → i < length ns → get_or ns i 0 < 2 ^ 64 → Summed ns (sum + (w + 1)) (i + 1)
+  summed_more w e h g =
       let few : i ≤ length ns = c.few in
       let small : sum ≤ most_bytes i = c.small in
-      let w : length (decimal (get_or ns i 0)) ≤ most_digits64 = width_small (get_or ns i 0) g in
+      let s : length (decimal (get_or ns i 0)) ≤ most_digits64 = width_small (get_or ns i 0) g in
       let l : length (text_from ns i) ≡ suc (length (decimal (get_or ns i 0))) + length (text_from ns (i + 1)) =
       ap length (text_one ns i h) ∙ length-append (comma ∷ decimal (get_or ns i 0)) (text_from ns (i + 1)) in
       record { few = omega arith; small = omega arith; left = omega (arith, c.left) }

@@ -70,27 +70,37 @@ module _ (bs : List ℕ) where
       simp (digits_at_digits bs, le-leb 1 (length (digits_at bs)) p, le-leb (length (digits_at bs)) most_digits q, c)
 
 -- the same by the digits that are looked at
-module _ (bs : List ℕ) (v n : ℕ) (d : Digits bs v n) where
-  counted : n ≡ min looked_at (length (digits_at bs))
-  counted = d.counted ∙ length-take looked_at (digits_at bs)
+module _ (bs : List ℕ) where
+  looked_long : length (take looked_at (digits_at bs)) ≡ min looked_at (length (digits_at bs))
+  looked_long = length-take looked_at (digits_at bs)
 
-  pub digits_within : n ≤ length bs
-  digits_within = omega (arith, counted, digits_at_within bs)
+  pub digits_within : 0 < length (take looked_at (digits_at bs)) → 0 < length bs
+  digits_within h = omega (arith, looked_long, digits_at_within bs)
 
-  pub digits_none : n ≡ 0 → number_at bs ≡ Missing
-  digits_none h = number_none bs (omega (arith, counted))
+  pub digits_none : length (take looked_at (digits_at bs)) ≡ 0 → Missing ≡ number_at bs
+  digits_none h = sym (number_none bs (omega (arith, looked_long)))
 
-  pub digits_long : most_digits < n → number_at bs ≡ Missing
-  digits_long h = number_long bs (omega (arith, counted))
+  pub digits_long : most_digits < length (take looked_at (digits_at bs)) → Missing ≡ number_at bs
+  digits_long h = sym (number_long bs (omega (arith, looked_long)))
 
-  pub digits_lead : 1 < n → get_or bs 0 0 ≡ digit_zero → number_at bs ≡ Missing
-  digits_lead h e = number_lead bs (omega (arith, counted)) e
+  pub digits_lead : 1 < length (take looked_at (digits_at bs)) → get_or bs 0 0 ≡ digit_zero → Missing ≡ number_at bs
+  digits_lead h e = sym (number_lead bs (omega (arith, looked_long)) e)
 
-  pub digits_some : (n ≡ 0 → ⊥) → n ≤ most_digits → (n ≤ 1) ⊎ (get_or bs 0 0 ≡ digit_zero → ⊥) → Number v n ≡ number_at bs
-  digits_some h g o =
-      let l : n ≡ length (digits_at bs) = omega (arith, counted) in
-      let whole : v ≡ value_of (digits_at bs) = d.says ∙ ap value_of (take_all looked_at (digits_at bs) (omega arith)) in
-      rw (l, whole) (sym (number_some bs (omega arith) (omega arith) (⊎_elim (λ k. inl (omega arith)) (λ k. inr k) o)))
+  module _ (v n : ℕ) (s : v ≡ value_of (take looked_at (digits_at bs))) (c : n ≡ length (take looked_at (digits_at bs))) (few : n ≤ most_digits) where
+    digits_some : 1 ≤ n → (n ≤ 1) ⊎ (get_or bs 0 0 ≡ digit_zero → ⊥) → Number v n ≡ number_at bs
+    digits_some h o =
+        let l : n ≡ length (digits_at bs) = omega (arith, looked_long) in
+        let whole : v ≡ value_of (digits_at bs) = s ∙ ap value_of (take_all looked_at (digits_at bs) (omega arith)) in
+        rw (l, whole) (sym (number_some bs (omega arith) (omega arith) (⊎_elim (λ k. inl (omega arith)) (λ k. inr k) o)))
+
+    pub digits_one : n ≡ 1 → Number v n ≡ number_at bs
+    digits_one h = digits_some (omega arith) (inl (omega arith))
+
+    pub digits_unled : 1 ≤ n → (get_or bs 0 0 ≡ digit_zero → ⊥) → Number v n ≡ number_at bs
+    digits_unled h g = digits_some h (inr g)
+
+-- for `checked_number`
+pub ruleset by_digits = (digits_within, digits_none, digits_long, digits_lead, digits_one, digits_unled)
 
 -- ---- a turn of the loop
 

@@ -80,3 +80,6 @@ module _ (bs want : List ℕ) where
 
     pub begins_all : length want ≤ i → ToCompare i → begins bs want ≡ true
     begins_all k c = c ∙ same_all (take (length want) bs) want i (omega (arith, long)) k
+
+-- for `begins_with`
+pub ruleset comparing = (begins_short, begins_more, begins_other, begins_all)

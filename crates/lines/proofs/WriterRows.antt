@@ -61,6 +61,9 @@ module _ (size at : ℕ) (line : EditionLine) where
         room = omega arith;
       }
 
+-- for `write_refusal`
+pub ruleset stages = (refused_place, refused_edition, refused_content, by_text)
+
 -- a next place is answered where no row refuses
 pub next_place : (next n : ℕ) (o : Outcome) → place_of n o ≡ W.Next next → (o ≡ Accepted) × (next ≡ n)
 unfolding place_of

@@ -43,7 +43,7 @@ fn goes_on(bytes: &[u8], letter: u8) -> bool
 }
 
 // How many fields the line has; 0 where it is not ended.
-#[tactic(auto, using(crate::proofs::Faults::counted_all, crate::proofs::Faults::counted_end, crate::proofs::Faults::counted_comma, crate::proofs::Faults::counted_other, crate::proofs::Faults::counted_out))]
+#[tactic(auto, using(crate::proofs::Faults::counting))]
 fn count_fields(bytes: &[u8]) -> usize
     ensures { result ≡ cond (is_ended bytes.now) (length (fields_in bytes.now)) 0 }
 {

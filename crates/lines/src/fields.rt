@@ -14,7 +14,7 @@ pub(crate) enum Numbers {
 }
 
 // Reads the numbers of a line that begins with the letter into out, as many as it holds.
-#[tactic(auto, using(crate::proofs::Lent::rest_all, crate::proofs::Turns::turn_none, crate::proofs::Turns::turn_missing, crate::proofs::Turns::turn_more, crate::proofs::Turns::turn_unended, crate::proofs::Turns::turn_ended, crate::proofs::Turns::ends_within, crate::proofs::Turns::not_read))]
+#[tactic(auto, using(crate::proofs::Turns::ends))]
 pub(crate) fn read_numbers(bytes: &[u8], letter: u8, out: &mut [u64]) -> Numbers
     requires { Lettered letter bytes.now × (length out.old ≤ most_numbers) }
     ensures { NumbersRead (letter ∷ []) bytes.now out.new result }

@@ -84,7 +84,6 @@ pub(crate) fn totals_count(edition: u64) -> usize
 }
 
 // The numbers, with zeros after them.
-#[tactic(auto, using(crate::proofs::Listing::list_more))]
 fn list(numbers: &[u64], shown: usize) -> Listed
     requires { (length numbers.now ≤ most_numbers) × (shown ≤ length numbers.now) }
     ensures { AreListed numbers.now shown result }
@@ -118,7 +117,6 @@ pub(crate) fn has_from(numbers: &[u64], least: u64) -> bool
 }
 
 // How many bytes the numbers take, each with the comma before it.
-#[tactic(auto, using(crate::proofs::Listing::summed_none, crate::proofs::Listing::summed_more, crate::proofs::Listing::summed_all))]
 pub(crate) fn fields_length(numbers: &[u64]) -> usize
     requires { length numbers.now ≤ most_numbers }
     ensures { (result ≡ length (after_commas (map decimal numbers.now))) × (result ≤ most_bytes most_numbers) }

@@ -19,7 +19,7 @@ pub(crate) enum Field {
 }
 
 // The comma at the front of part and the number after it.
-#[tactic(auto, using(crate::proofs::FieldLaws::field_empty, crate::proofs::FieldLaws::field_other, crate::proofs::FieldLaws::field_comma, crate::proofs::FieldLaws::number_within, crate::proofs::Lent::rest_all), unfolding(crate::specs::Inside::Parts::one_more))]
+#[tactic(auto, using(crate::proofs::FieldLaws::by_front))]
 pub(crate) fn read_field(part: &[u8]) -> Field
     ensures { result ≡ field_at part.now }
 {
@@ -36,7 +36,7 @@ pub(crate) fn read_field(part: &[u8]) -> Field
 }
 
 // The number at the front of part. One digit more than a number has is looked at, and no further one.
-#[tactic(auto, using(crate::proofs::Decimals::digit_low, crate::proofs::Decimals::digit_high, crate::proofs::Runs::passed_none, crate::proofs::Runs::passed_fits, crate::proofs::Runs::passed_more, crate::proofs::Runs::passed_end, crate::proofs::Runs::ends_at, crate::proofs::Runs::ends_with))]
+#[tactic(auto, using(crate::proofs::Decimals::digit_low, crate::proofs::Runs::passed_none, crate::proofs::Runs::passed_fits))]
 fn read_number(part: &[u8]) -> Field
     ensures { result ≡ number_at part.now }
 {
@@ -77,7 +77,7 @@ fn wide(x: u8) -> u64
 }
 
 // The n digits at the front of part, which say value, if they are a number's text.
-#[tactic(auto, using(crate::proofs::Runs::digits_within, crate::proofs::Runs::digits_none, crate::proofs::Runs::digits_long, crate::proofs::Runs::digits_lead, crate::proofs::Runs::digits_some))]
+#[tactic(auto, using(crate::proofs::Runs::by_digits))]
 fn checked_number(part: &[u8], value: u64, n: usize) -> Field
     requires { Digits part.now value n }
     ensures { result ≡ number_at part.now }
@@ -97,7 +97,7 @@ fn checked_number(part: &[u8], value: u64, n: usize) -> Field
 }
 
 // How many digits x has.
-#[tactic(auto, using(crate::proofs::Decimals::decimal_pos, crate::proofs::Decimals::length_one, crate::proofs::Decimals::length_step, crate::proofs::Listing::width_small))]
+#[tactic(auto, using(crate::proofs::Decimals::length_one, crate::proofs::Decimals::length_step, crate::proofs::Listing::width_small))]
 pub(crate) fn width(x: u64) -> usize
     ensures { result ≡ length (decimal x) }
 {
@@ -123,7 +123,7 @@ pub(crate) fn put_field(part: &mut [u8], x: u64) -> usize
 }
 
 // Puts the last k digits of x at the front of part.
-#[tactic(auto, using(crate::proofs::Puts::digit_turn), unfolding(crate::specs::Inside::Parts::last_digits))]
+#[tactic(auto, unfolding(crate::specs::Inside::Parts::last_digits))]
 fn put_digits(part: &mut [u8], k: usize, x: u64)
     requires { k ≤ length part.old }
     ensures { part.new ≡ last_digits k x ++ drop k part.old }

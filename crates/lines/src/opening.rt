@@ -35,7 +35,6 @@ pub(crate) fn opened_edition(bytes: &[u8]) -> u64
 }
 
 // Whether bytes begins with the edition's opening.
-#[tactic(auto, using(crate::proofs::Openings::digit_length))]
 fn is_opening(bytes: &[u8], edition: u64) -> bool
     requires { edition ≤ last_edition }
     ensures { result ≡ is_same (take opening_length bytes.now) (bytes_of (opening_in edition)) }
@@ -44,7 +43,6 @@ fn is_opening(bytes: &[u8], edition: u64) -> bool
 }
 
 // Puts the edition's opening at the front of part.
-#[tactic(auto, using(crate::proofs::Openings::digit_length))]
 pub(crate) fn put_opening(part: &mut [u8], edition: u64)
     requires { (opening_length ≤ length part.old) × (edition ≤ last_edition) }
     ensures { part.new ≡ bytes_of (opening_in edition) ++ drop opening_length part.old }
@@ -52,7 +50,7 @@ pub(crate) fn put_opening(part: &mut [u8], edition: u64)
     put_bytes(part, &opening_of(edition));
 }
 
-#[tactic(auto, using(crate::proofs::Same::begins_short, crate::proofs::Same::begins_more, crate::proofs::Same::begins_other, crate::proofs::Same::begins_all))]
+#[tactic(auto, using(crate::proofs::Same::comparing))]
 fn begins_with(bytes: &[u8], want: &[u8]) -> bool
     ensures { result ≡ is_same (take (length want.now) bytes.now) want.now }
 {
@@ -70,7 +68,6 @@ fn begins_with(bytes: &[u8], want: &[u8]) -> bool
 }
 
 // Puts from at the front of part.
-#[tactic(auto, using(crate::proofs::Puts::put_more))]
 fn put_bytes(part: &mut [u8], from: &[u8])
     requires { length from.now ≤ length part.old }
     ensures { part.new ≡ from.now ++ drop (length from.now) part.old }

@@ -20,7 +20,7 @@ use quantity::Outcome;
 const MOST_LATER: usize = 6;
 
 // What stands at the front of bytes, told what may come. Another edition is met before all else.
-#[tactic(auto, using(crate::proofs::ReaderRows::edition_refused, crate::proofs::ReaderRows::as_told, crate::proofs::ReaderRows::opening_told), unfolding(crate::specs::Reading::edition_in))]
+#[tactic(auto, using(crate::proofs::ReaderRows::edition_refused, crate::proofs::ReaderRows::opening_told), unfolding(crate::specs::Reading::edition_in))]
 pub fn front_line(bytes: &[u8], may_come: MayCome) -> Front
     ensures { result ≡ read_of may_come bytes.now }
 {
@@ -55,7 +55,7 @@ fn in_edition(edition: u64, line: Line) -> EditionLine
 }
 
 // The card's line.
-#[tactic(auto, using(crate::proofs::ReaderRows::lettered, crate::proofs::ReaderRows::card_other, crate::proofs::ReaderRows::card_all, crate::proofs::ReaderRows::card_none))]
+#[tactic(auto, using(crate::proofs::ReaderRows::card_other, crate::proofs::ReaderRows::card_all, crate::proofs::ReaderRows::card_none))]
 fn front_card(bytes: &[u8], edition: u64) -> Front
     requires { is_other_edition edition ≡ false }
     ensures { result ≡ read_of (M.Card edition) bytes.now }
@@ -94,7 +94,7 @@ fn accepted_card(edition: u64, card: Card, n: usize) -> Front
 }
 
 // A sample's line or the last, by its letter.
-#[tactic(auto, using(crate::proofs::ReaderRows::lettered, crate::proofs::ReaderRows::neither_read))]
+#[tactic(auto, using(crate::proofs::ReaderRows::neither_read))]
 fn front_sample_or_end(bytes: &[u8], edition: u64) -> Front
     requires { is_other_edition edition ≡ false }
     ensures { result ≡ read_of (M.SampleOrEnd edition) bytes.now }
@@ -110,7 +110,6 @@ fn front_sample_or_end(bytes: &[u8], edition: u64) -> Front
 }
 
 // A line after the card's that begins with one of its two letters.
-#[tactic(auto, using(crate::proofs::ReaderRows::later_all, crate::proofs::ReaderRows::later_none, crate::proofs::Shown::zeros_left))]
 fn front_later(bytes: &[u8], edition: u64, letter: u8) -> Front
     requires { (is_other_edition edition ≡ false) × (Lettered letter bytes.now × LaterLetter letter) }
     ensures { result ≡ read_of (M.SampleOrEnd edition) bytes.now }
@@ -175,7 +174,6 @@ fn sample_from(f: [u64; MOST_LATER]) -> Sample
 }
 
 // The part of bytes after its first n.
-#[tactic(auto, using(crate::proofs::Lent::rest_all))]
 pub fn rest_after(bytes: &[u8], n: usize) -> &[u8]
     ensures { result.now ≡ drop n bytes.now }
 {

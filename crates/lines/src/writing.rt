@@ -28,7 +28,7 @@ pub fn write_line(buf: &mut [u8], at: usize, what: EditionLine) -> Written
 }
 
 // The writer's rows, for a buffer of size bytes.
-#[tactic(auto, using(crate::proofs::WriterRows::refused_place, crate::proofs::WriterRows::refused_edition, crate::proofs::WriterRows::refused_content, crate::proofs::WriterRows::by_text))]
+#[tactic(auto, using(crate::proofs::WriterRows::stages))]
 fn write_refusal(size: usize, at: usize, what: EditionLine) -> Outcome
     ensures { result ≡ first_of (write_rows size at what) }
 {
@@ -60,7 +60,6 @@ fn content_refusal(line: Line) -> Outcome
 }
 
 // The rows of a line's text, where room bytes follow the place.
-#[tactic(auto, using(quantity::proofs::Rows::accumulated, crate::proofs::Listing::listed_length, crate::proofs::Listing::listed_few, crate::proofs::Listing::listed_size))]
 fn text_refusal(room: usize, what: EditionLine) -> Outcome
     ensures { result ≡ first_of (text_rows room what) }
 {
@@ -74,7 +73,7 @@ fn text_refusal(room: usize, what: EditionLine) -> Outcome
 }
 
 // Whether a number of the line has over 18 digits, or one that its edition lacks is other than zero.
-#[tactic(auto, using(crate::proofs::Listing::listed_length, crate::proofs::Listing::shown_are, crate::proofs::Listing::lacked_are))]
+#[tactic(auto, using(crate::proofs::Listing::shown_are, crate::proofs::Listing::lacked_are))]
 fn has_refused_number(what: EditionLine) -> bool
     ensures { result ≡ (some_long (numbers_of what) || some_nonzero (lacked_of what)) }
 {
@@ -89,7 +88,7 @@ fn has_refused_number(what: EditionLine) -> bool
 }
 
 // Puts a line for which there is room.
-#[tactic(auto, using(crate::proofs::Openings::edition_most, crate::proofs::Openings::opening_length_lem, crate::proofs::Lent::rest_all, crate::proofs::Puts::lent_back), unfolding(crate::specs::Line::kind_of, crate::specs::Line::first_field))]
+#[tactic(auto, unfolding(crate::specs::Line::kind_of, crate::specs::Line::first_field))]
 fn put_line(buf: &mut [u8], at: usize, what: EditionLine) -> usize
     requires { (at + length (bytes_of what) ≤ length buf.old) × (is_other_edition what.edition ≡ false) }
     ensures { (result ≡ at + length (bytes_of what)) × (buf.new ≡ put_at buf.old at (bytes_of what)) }
@@ -107,7 +106,7 @@ fn put_line(buf: &mut [u8], at: usize, what: EditionLine) -> usize
 }
 
 // Puts a line whose first field is the letter.
-#[tactic(auto, using(crate::proofs::Listing::listed_length, crate::proofs::Listing::listed_text))]
+#[tactic(auto, using(crate::proofs::Listing::listed_text))]
 fn put_listed(buf: &mut [u8], at: usize, letter: u8, what: EditionLine) -> usize
     requires { (at + length (bytes_of what) ≤ length buf.old) × (first_field (kind_of what.line) ≡ letter ∷ []) }
     ensures { (result ≡ at + length (bytes_of what)) × (buf.new ≡ put_at buf.old at (bytes_of what)) }
@@ -119,7 +118,7 @@ fn put_listed(buf: &mut [u8], at: usize, letter: u8, what: EditionLine) -> usize
 }
 
 // Puts a letter, the numbers and the line's end.
-#[tactic(auto, using(crate::proofs::Listing::letter_room, crate::proofs::Listing::fields_room, crate::proofs::Listing::end_room, crate::proofs::Listing::text_put))]
+#[tactic(auto, using(crate::proofs::Listing::fields_room, crate::proofs::Listing::end_room))]
 pub(crate) fn put_text(buf: &mut [u8], at: usize, letter: u8, numbers: &[u64]) -> usize
     requires { at + length (text_of (letter ∷ []) numbers.now) ≤ length buf.old }
     ensures { (result ≡ at + length (text_of (letter ∷ []) numbers.now)) × (buf.new ≡ put_at buf.old at (text_of (letter ∷ []) numbers.now)) }
@@ -131,7 +130,7 @@ pub(crate) fn put_text(buf: &mut [u8], at: usize, letter: u8, numbers: &[u64]) -
 }
 
 // Puts the numbers, each after a comma.
-#[tactic(auto, using(crate::proofs::Listing::begun, crate::proofs::Listing::next_room, crate::proofs::Listing::next, crate::proofs::Listing::same_long, crate::proofs::Listing::all))]
+#[tactic(auto, using(crate::proofs::Listing::begun, crate::proofs::Listing::next))]
 fn put_fields(buf: &mut [u8], at: usize, numbers: &[u64]) -> usize
     requires { at + length (after_commas (map decimal numbers.now)) ≤ length buf.old }
     ensures { (result ≡ at + length (after_commas (map decimal numbers.now))) × (buf.new ≡ put_at buf.old at (after_commas (map decimal numbers.now))) }
@@ -146,7 +145,6 @@ fn put_fields(buf: &mut [u8], at: usize, numbers: &[u64]) -> usize
 }
 
 // Puts a comma and x from the place at on, and answers the next place.
-#[tactic(auto, using(crate::proofs::Puts::lent_back))]
 fn put_at(buf: &mut [u8], at: usize, x: u64) -> usize
     requires { at + length (comma ∷ decimal x) ≤ length buf.old }
     ensures { (result ≡ at + length (comma ∷ decimal x)) × (buf.new ≡ put_at buf.old at (comma ∷ decimal x)) }

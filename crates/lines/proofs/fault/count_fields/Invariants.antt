@@ -1,4 +1,4 @@
--- `lines::fault::count_fields` meets its contract. The loop's invariant: k fields before the place i, the last of which goes on there.
+-- The loop's invariant: k fields before the place i, the last of which goes on there.
 use Rattle.std.proofs.Common.{◌+◌, ◌-◌, ◌≤◌, length}
 use Rattle.lines.proofs.Faults.{CountedTo}
 use Rattle.lines.proofs.fault.count_fields.Given as goal

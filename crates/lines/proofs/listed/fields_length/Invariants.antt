@@ -1,4 +1,4 @@
--- `lines::listed::fields_length` meets its contract. The loop's invariant is `Summed`.
+-- The loop's invariant: the sum is the bytes of the first i numbers, each with its comma, and at most 21 for each.
 use Rattle.std.proofs.Common.{◌-◌, length}
 use Rattle.lines.proofs.Listing.{Summed}
 use Rattle.lines.proofs.listed.fields_length.Given as goal

@@ -1,4 +1,4 @@
--- `lines::listed::has_from` meets its contract. The loop's invariant: no number before i is so large.
+-- The loop's invariant: no number before i is so large.
 use Rattle.std.proofs.Common.{◌≡◌, ◌-◌, ◌≤◌, length, drop}
 use Rattle.lines.specs.Number.{some_from}
 use Rattle.lines.proofs.listed.has_from.Given as goal

@@ -1,4 +1,4 @@
--- `lines::listed::list` meets its contract. The loop's invariant: the first i numbers stand at the front of all.
+-- The loop's invariant: the first i numbers stand at the front of all.
 use Rattle.std.proofs.Common.{◌≡◌, ◌-◌, ◌≤◌, length, take}
 use Rattle.lines.specs.Inside.Parts.{most_numbers}
 use Rattle.lines.proofs.listed.list.Given as goal

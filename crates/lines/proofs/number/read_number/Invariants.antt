@@ -1,5 +1,4 @@
--- `lines::number::read_number` meets its contract. The loop's invariant, `PassedDigits`: the first n bytes are digits, which say value. The measure
--- is what is left of the bytes that are looked at.
+-- The loop's invariant, `PassedDigits`: the first n bytes are digits, which say value. The measure is what is left of the bytes that are looked at.
 use Rattle.std.proofs.Common.{◌-◌, ◌≤◌}
 use Rattle.lines.proofs.Runs.{PassedDigits}
 use Rattle.lines.proofs.number.read_number.Given as goal

@@ -1,4 +1,4 @@
--- `lines::number::width` meets its contract. The loop's invariant: the digits counted, with those of the rest, are one more than all.
+-- The loop's invariant: the digits counted, with those of the rest, are one more than all.
 use Rattle.std.proofs.Common.{◌≡◌, ◌+◌, length}
 use Rattle.lines.specs.Number.{decimal}
 use Rattle.lines.proofs.number.width.Given as goal

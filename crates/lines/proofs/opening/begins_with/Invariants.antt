@@ -1,4 +1,4 @@
--- `lines::opening::begins_with` meets its contract. The loop's invariant: the bytes from i on are to be compared.
+-- The loop's invariant: the bytes from i on are to be compared.
 use Rattle.std.proofs.Common.{◌-◌, ◌≤◌, length}
 use Rattle.lines.proofs.Same.{ToCompare}
 use Rattle.lines.proofs.opening.begins_with.Given as goal

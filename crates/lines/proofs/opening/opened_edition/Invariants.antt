@@ -1,4 +1,4 @@
--- `lines::opening::opened_edition` meets its contract. The loop's invariant: no edition above the one at hand is found.
+-- The loop's invariant: no edition above the one at hand is found.
 use Rattle.std.proofs.Common.{◌≡◌, ◌≤◌}
 use Rattle.meter.specs.Edition.{last_edition}
 use Rattle.lines.specs.Reading.{opened_up_to}

@@ -1,4 +1,4 @@
--- By what `read_numbers` answers.
+-- The numbers that were read, with zeros after them, say the line; a refusal is the line's.
 use Rattle.std.proofs.Common.{ap, ◌∙◌}
 use Rattle.std.proofs.Math.Seq.{length-take-le}
 use Rattle.lines.specs.Inside.Parts.{most_later}

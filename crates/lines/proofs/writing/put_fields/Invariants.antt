@@ -1,4 +1,4 @@
--- `lines::writing::put_fields` meets its contract. The loop's invariant is `Progress`.
+-- The loop's invariant: the first i numbers, each after its comma, were put from at on, and place is behind them.
 use Rattle.std.proofs.Common.{◌-◌, length}
 use Rattle.lines.proofs.Listing.{Progress}
 use Rattle.lines.proofs.writing.put_fields.Given as goal
