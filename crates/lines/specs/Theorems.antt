@@ -1,4 +1,5 @@
--- The statements of this crate's theorems. Each is proved in proofs/ under the same name in small letters.
+-- The statements of this crate's theorems. Each is proved in proofs/ under the same name in small letters; where a definition has that name, it
+-- ends in `_lem`.
 use Rattle.std.specs.Prelude.{◌≡◌, true, false, ◌||◌, List, [], ◌∷◌, ◌++◌, ◌↔◌, ℕ, ◌+◌, ◌^◌, ◌≤◌, ◌<◌, length, take}
 use Rattle.quantity.specs.Refusals.{NoneApplies}
 use Rattle.meter.specs.Edition.{is_other_edition}
