@@ -30,7 +30,6 @@ pub struct Card {
 
 impl Card {
     // The one place of this crate that builds a card.
-    #[tactic(auto, using(crate::proofs::Elements::all), unfolding(crate::specs::Card::fields_of))]
     pub fn from_fields(f: [u64; CARD_FIELDS]) -> Card
         ensures { fields_of result ≡ f }
     {
@@ -51,7 +50,6 @@ impl Card {
     }
 
     // The card's rows, 10 to 18.
-    #[tactic(auto, using(quantity::proofs::Rows::accumulated), unfolding(crate::specs::Card::card_rows))]
     pub fn refusal(self) -> Outcome
         ensures { result ≡ first_of (card_rows self) }
     {
@@ -96,7 +94,6 @@ fn is_delta_max_refused(min: u64, max: u64) -> bool
     LARGEST_KELVINS < max
 }
 
-#[tactic(auto, using(quantity::proofs::Comparing::not_at_most))]
 fn are_flows_refused(qi: u64, qp: u64, qs: u64) -> bool
     ensures { result ≡ not (leb 1 qi && leb qi qp && leb qp qs && leb qs (10 ^ 9)) }
 {

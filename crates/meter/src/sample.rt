@@ -27,7 +27,7 @@ pub struct Sample {
 }
 
 // Rows 30 and 31.
-#[tactic(auto, using(quantity::proofs::Rows::accumulated, crate::proofs::Accepted::accepted_card), unfolding(crate::specs::Step::count_rows, crate::specs::Sample::volume_of))]
+#[tactic(auto, using(crate::proofs::Accepted::accepted_card))]
 pub(crate) fn count_refusal(card: Card, s: Sample) -> Outcome
     requires { NoneApplies (card_rows card) }
     ensures { result ≡ first_of (count_rows card s) }
@@ -48,7 +48,6 @@ fn is_too_much(pulses: u64, ml_per_pulse: u64) -> bool
 }
 
 // Rows 32 and 70 of the supply, then 33 and 71 of the return.
-#[tactic(auto, using(quantity::proofs::Rows::parts))]
 pub(crate) fn reading_refusal(supply: Measured, returned: Measured) -> Outcome
     ensures { result ≡ first_of (end_rows Supply supply ++ end_rows Return returned) }
 {
@@ -71,7 +70,7 @@ pub(crate) fn temperature_or_missing(measured: Measured) -> Temperature
 }
 
 // Rows 34 to 39 in an edition, of the volume and of the supply and the return temperature.
-#[tactic(auto, using(quantity::proofs::Rows::accumulated, crate::proofs::Accepted::accepted_card), unfolding(crate::specs::Step::range_rows))]
+#[tactic(auto, using(crate::proofs::Accepted::accepted_card))]
 pub(crate) fn range_refusal(
     edition: u64,
     card: Card,
@@ -113,7 +112,7 @@ fn is_flow_refused(edition: u64, card: Card, s: Sample, volume: u64) -> bool
 }
 
 // Whether the volume flowed above q_s: exactly at q_s it did not.
-#[tactic(auto, using(crate::proofs::Accepted::accepted_card, crate::proofs::Accepted::accepted_counts, crate::proofs::Accepted::product_fits), unfolding(crate::specs::Step::is_above_qs))]
+#[tactic(auto, using(crate::proofs::Accepted::accepted_card, crate::proofs::Accepted::accepted_counts), unfolding(crate::specs::Step::is_above_qs))]
 fn is_above_qs(card: Card, s: Sample, volume: u64) -> bool
     requires { WithVolume card s volume }
     ensures { result ≡ is_above_qs card s }

@@ -62,7 +62,7 @@ pub fn fresh(card: Card, edition: u64) -> FreshMeter
 }
 
 // The card's rows, then 20 for another edition.
-#[tactic(auto, using(quantity::proofs::Rows::accumulated, quantity::proofs::Rows::parts))]
+#[tactic(auto, using(quantity::proofs::Rows::parts))]
 fn fresh_refusal(card: Card, edition: u64) -> Outcome
     ensures { result ≡ first_of (fresh_rows card edition) }
 {
@@ -87,7 +87,6 @@ pub(crate) fn card_and_state_refusal(m: Meter) -> Outcome
 }
 
 // Rows 20 and 21.
-#[tactic(auto, using(quantity::proofs::Rows::accumulated, crate::proofs::Counts::passes, crate::proofs::Counts::equals), unfolding(crate::specs::State::state_rows))]
 fn state_refusal(m: Meter) -> Outcome
     ensures { result ≡ first_of (state_rows m) }
 {

@@ -39,7 +39,7 @@ pub fn step(m: Meter, s: Sample) -> Stepped
     }
 }
 
-#[tactic(auto, using(crate::proofs::Stages::passed, crate::proofs::Stages::goes_on, crate::proofs::Stages::stops, crate::proofs::Stages::countable))]
+#[tactic(auto, using(crate::proofs::Stages::passed, crate::proofs::Stages::goes_on, crate::proofs::Stages::countable))]
 fn take_sample(m: Meter, s: Sample) -> Stepped
     requires { BeforeSample m }
     ensures { result ≡ by_sample m s (first_of (sample_rows m s)) }
@@ -52,7 +52,7 @@ fn take_sample(m: Meter, s: Sample) -> Stepped
     }
 }
 
-#[tactic(auto, using(crate::proofs::Stages::goes_on, crate::proofs::Stages::stops, crate::proofs::Stages::countable), unfolding(crate::specs::Step::reading_rows))]
+#[tactic(auto, using(crate::proofs::Stages::countable))]
 fn take_readings(m: Meter, s: Sample) -> Stepped
     requires { CountsPass m s }
     ensures { result ≡ by_sample m s (first_of (reading_rows m.card s ++ (range_rows m.edition m.card s ++ limit_rows m s))) }
@@ -72,7 +72,7 @@ fn take_readings(m: Meter, s: Sample) -> Stepped
     }
 }
 
-#[tactic(auto, using(crate::proofs::Accepted::accepted_counts, crate::proofs::Stages::goes_on, crate::proofs::Stages::stops, crate::proofs::Stages::countable), unfolding(crate::specs::Sample::volume_of))]
+#[tactic(auto, using(crate::proofs::Accepted::accepted_counts, crate::proofs::Stages::goes_on, crate::proofs::Stages::countable), unfolding(crate::specs::Sample::volume_of))]
 fn take_pair(m: Meter, s: Sample, supply: Temperature, returned: Temperature) -> Stepped
     requires { Compared m s supply returned }
     ensures { result ≡ by_sample m s (first_of (range_rows m.edition m.card s ++ limit_rows m s)) }
@@ -86,7 +86,7 @@ fn take_pair(m: Meter, s: Sample, supply: Temperature, returned: Temperature) ->
     }
 }
 
-#[tactic(auto, using(crate::proofs::Heats::of_sample, crate::proofs::Heats::same_heat, crate::proofs::Heats::never_refused, crate::proofs::Stages::countable))]
+#[tactic(auto, using(crate::proofs::Heats::of_sample, crate::proofs::Stages::countable))]
 fn take_heat(
     m: Meter,
     s: Sample,
@@ -106,7 +106,7 @@ fn take_heat(
     }
 }
 
-#[tactic(auto, using(crate::proofs::Registers::room_in_each, crate::proofs::Accepted::accepted_state, crate::proofs::Accepted::accepted_counts, crate::proofs::Accepted::kept_at_most, crate::proofs::Accepted::accepted_limits, crate::proofs::Stages::passed, crate::proofs::Stages::countable))]
+#[tactic(auto, using(crate::proofs::Accepted::accepted_state))]
 fn take_amounts(m: Meter, s: Sample, own: Register, heat: u64, volume: u64) -> Stepped
     requires { Heated m s own heat volume }
     ensures { result ≡ by_sample m s (first_of (limit_rows m s)) }
@@ -120,7 +120,7 @@ fn take_amounts(m: Meter, s: Sample, own: Register, heat: u64, volume: u64) -> S
 }
 
 // Rows 40 and 41, of a heat in mJ for the register whose own the sample is, and a volume in mL.
-#[tactic(auto, using(quantity::proofs::Rows::accumulated, crate::proofs::Accepted::accepted_card, crate::proofs::Accepted::accepted_state, crate::proofs::Accepted::accepted_counts, crate::proofs::Accepted::product_fits), unfolding(crate::specs::Step::limit_rows))]
+#[tactic(auto, using(crate::proofs::Accepted::accepted_card, crate::proofs::Accepted::accepted_counts))]
 fn limit_refusal(m: Meter, s: Sample, own: Register, heat: u64, volume: u64) -> Outcome
     requires { Heated m s own heat volume }
     ensures { result ≡ first_of (limit_rows m s) }
@@ -133,7 +133,6 @@ fn limit_refusal(m: Meter, s: Sample, own: Register, heat: u64, volume: u64) -> 
 }
 
 // A sum can pass 64 bits, so what is added is compared with the room that is left.
-#[tactic(auto, using(quantity::proofs::Comparing::same_order))]
 fn passes_limits(register: u64, heat: u64, volume: u64, added: u64) -> bool
     requires { (register ≤ largest_register) × (volume ≤ largest_volume) }
     ensures { result ≡ (ltb largest_register (register + heat) || ltb largest_volume (volume + added)) }

@@ -1,5 +1,4 @@
 -- The last rows leave room in each register and in the volume, and the state in the counts and the kept seconds.
-use Rattle.std.proofs.Common.{◌∙◌, sym}
 use Rattle.quantity.specs.Fractions.{floored}
 use Rattle.meter.specs.Sample.{sample_heat}
 use Rattle.meter.specs.Register.{own_register}
