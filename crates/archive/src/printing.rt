@@ -13,8 +13,8 @@ pub const AUDIT_LIMIT: usize = 65536;
 // The output line of the audit of an input that stands in the first used bytes of the space: 68, as line 0, exactly when it has more bytes
 // than limit or fills the space.
 pub fn report(space: &[u8], used: usize, limit: usize) -> OutputLine
-    ensures value { result ≡ output_of (report_text (report_in limit space.now used)) }
-    ensures length_le_longest_output { result.length ≤ longest_output }
+    ensures answer { result ≡ output_of (report_text (report_in limit space.now used)) }
+    ensures within { result.length ≤ longest_output }
 {
     lines::report_line(found(space, used, limit))
 }
