@@ -35,8 +35,8 @@ fn audit<R: Read, W: Write>(input: &mut R, out: &mut W) -> io::Result<()>
 #[tactic(auto, using(archive::proofs::Inputs::whole_input))]
 fn answer(space: &[u8], used: usize) -> OutputLine
     requires { (audit_limit < length space.now) × (used ≤ length space.now) }
-    ensures value { result ≡ output_of (report_text (report_of audit_limit (take used space.now))) }
-    ensures length_le_longest_output { result.length ≤ longest_output }
+    ensures answer { result ≡ output_of (report_text (report_of audit_limit (take used space.now))) }
+    ensures within { result.length ≤ longest_output }
 {
     archive::report(space, used, AUDIT_LIMIT)
 }

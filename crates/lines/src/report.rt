@@ -40,8 +40,8 @@ pub struct OutputLine {
 // The report's line.
 #[tactic(auto, unfolding(crate::specs::Report::report_text))]
 pub fn report_line(report: Report) -> OutputLine
-    ensures value { result ≡ output_of (report_text report) }
-    ensures length_le_longest_output { result.length ≤ longest_output }
+    ensures answer { result ≡ output_of (report_text report) }
+    ensures within { result.length ≤ longest_output }
 {
     match report {
         Report::EndState {
@@ -59,8 +59,8 @@ pub fn report_line(report: Report) -> OutputLine
 #[tactic(auto, using(crate::proofs::Reports::line_within), unfolding(crate::specs::Report::output_of))]
 fn output_of(letter: u8, numbers: &[u64]) -> OutputLine
     requires { length numbers.now ≤ most_reported }
-    ensures value { result ≡ output_of (text_of (letter ∷ []) numbers.now) }
-    ensures length_le_longest_output { result.length ≤ longest_output }
+    ensures answer { result ≡ output_of (text_of (letter ∷ []) numbers.now) }
+    ensures within { result.length ≤ longest_output }
 {
     let mut bytes = [0u8; LONGEST];
     let length = put_text(&mut bytes, 0, letter, numbers);
