@@ -1,33 +1,74 @@
--- The refusal table as data, document 01, "Refusals, by the place of the check": "Places and numbers are tried in the
+-- The refusals and their table as data, document 01, "Refusals, by the place of the check": "Places and numbers are tried in the
 -- order shown; the first that applies is the answer, and none is given otherwise."
-use Rattle.std.specs.Prelude.{◌≡◌, ℕ, List, [], ◌∷◌, Bool, true, false, cond, ◌||◌, ltb}
-use Rattle.quantity.specs.declared.refusal.Outcome.{Outcome}
-use Rattle.quantity.specs.declared.refusal.Outcome.TheVariants.{Accepted, Refused}
+use Rattle.std.specs.Prelude.{◌≡◌, ℕ, List, [], ◌∷◌, Bool, true, false, cond, ◌||◌, ltb, Result, Ok, Err}
+use Rattle.quantity.specs.declared.refusal.Refusal.{Refusal}
+use Rattle.quantity.specs.declared.refusal.Refusal.TheVariants as R
+use Rattle.quantity.specs.declared.refusal.Row.{Row}
 
--- a row of the table: a number, and the condition under which it is given
-pub record Row : Type 0 where
-  pub number : ℕ
-  pub condition : Bool
+-- the number that the papers give a refusal
+unfoldable pub number_of : Refusal → ℕ
+number_of R.Serial = 10
+number_of R.Place = 11
+number_of R.SensorKind = 12
+number_of R.PulseVolume = 13
+number_of R.ThetaRange = 14
+number_of R.DeltaMin = 15
+number_of R.DeltaMax = 16
+number_of R.FlowRates = 17
+number_of R.PowerLimit = 18
+number_of R.State = 20
+number_of R.CountsFull = 21
+number_of R.Seconds = 30
+number_of R.Volume = 31
+number_of R.SupplyBelowRange = 32
+number_of R.ReturnBelowRange = 33
+number_of R.SupplyOutsideTheta = 34
+number_of R.ReturnOutsideTheta = 35
+number_of R.SupplyBelowReturn = 36
+number_of R.DifferenceTooSmall = 37
+number_of R.DifferenceTooLarge = 38
+number_of R.FlowAboveQs = 39
+number_of R.PowerAbovePs = 40
+number_of R.RegisterFull = 41
+number_of R.Part = 50
+number_of R.Class = 51
+number_of R.Stage = 52
+number_of R.TestDifference = 53
+number_of R.TestFlow = 54
+number_of R.Values = 55
+number_of R.Edition = 60
+number_of R.Shape = 61
+number_of R.Number = 62
+number_of R.Totals = 64
+number_of R.BytesAfter = 65
+number_of R.Room = 66
+number_of R.PlaceBeyond = 67
+number_of R.InputSize = 68
+number_of R.SupplyAboveRange = 70
+number_of R.ReturnAboveRange = 71
+number_of R.OneEditionAlone = 72
 
-abbrev pub row : ℕ → Bool → Row
-row n b = record { number = n; condition = b }
+-- a row of the table: a refusal, and the condition under which it is given
+abbrev pub row : Refusal → Bool → Row
+row r b = record { refusal = r; condition = b }
 
 -- a condition of many rows: x lies outside low..high
 unfoldable pub outside : ℕ → ℕ → ℕ → Bool
 outside x low high = ltb x low || ltb high x
 
--- the number of the first row whose condition holds, and none otherwise
-unfoldable pub first_of : List Row → Outcome
-first_of [] = Accepted
-first_of (r ∷ rs) = cond r.condition (Refused r.number) (first_of rs)
+-- the refusal of the first row whose condition holds, and none otherwise
+unfoldable pub first_of : List Row → Result Unit Refusal
+first_of [] = Ok tt
+first_of (r ∷ rs) = cond r.condition (Err r.refusal) (first_of rs)
 
 -- no row applies: each condition is false
 abbrev pub NoneApplies : List Row → Type 0
 NoneApplies [] = Unit {0}
 NoneApplies (r ∷ rs) = (r.condition ≡ false) × NoneApplies rs
 
--- an outcome after one row more, as code takes the rows: `Accumulated` of specs/Theorems.antt ties it to `first_of`
-unfoldable pub or_row : Outcome → Bool → ℕ → Outcome
-or_row (Refused earlier) refuses n = Refused earlier
-or_row Accepted true n = Refused n
-or_row Accepted false n = Accepted
+-- the answer after one row more: an earlier refusal stands; otherwise the row decides. `Accumulated` of specs/Theorems.antt ties it to
+-- `first_of`.
+unfoldable pub or_row : Result Unit Refusal → Bool → Refusal → Result Unit Refusal
+or_row (Err earlier) refuses r = Err earlier
+or_row (Ok u) true r = Err r
+or_row (Ok u) false r = Ok tt

@@ -1,28 +1,32 @@
 -- What is proved of the refusal table, of the numbers of a missed range, and of divisors and lowest terms, statement by statement. Each is
--- proved under its name in small letters, in proofs/Rows.antt, Ends.antt, Divisors.antt or LowestTerms.antt.
-use Rattle.std.specs.Prelude.{◌≡◌, List, [], ◌∷◌, ◌↔◌, ℕ}
+-- proved under its name in small letters, in proofs/Rows.antt, Numbered.antt, Ends.antt, Divisors.antt or LowestTerms.antt.
+use Rattle.std.specs.Prelude.{◌≡◌, List, [], ◌∷◌, ◌↔◌, ℕ, Result, Ok}
 use Rattle.quantity.specs.Divisors.{largest_common_divisor, IsLargestCommonDivisor, InLowestTerms, reduced}
 use Rattle.quantity.specs.Fractions.{whole, IsFraction, Same, Represents}
 use Rattle.quantity.specs.Range.{end_number}
-use Rattle.quantity.specs.Refusals.{Row, first_of, NoneApplies, or_row}
+use Rattle.quantity.specs.Refusals.{number_of, first_of, NoneApplies, or_row}
 use Rattle.quantity.specs.declared.fraction.Fraction.{Fraction}
 use Rattle.quantity.specs.declared.range.End.{End}
 use Rattle.quantity.specs.declared.range.Position.{Position}
-use Rattle.quantity.specs.declared.refusal.Outcome.{Outcome}
-use Rattle.quantity.specs.declared.refusal.Outcome.TheVariants.{Accepted}
+use Rattle.quantity.specs.declared.refusal.Refusal.{Refusal}
+use Rattle.quantity.specs.declared.refusal.Row.{Row}
 
--- row after row, from an outcome on, as code takes them
-abbrev pub after : Outcome → List Row → Outcome
+-- No two refusals have one number.
+abbrev pub NumbersDiffer : Type 0
+NumbersDiffer = (p q : Refusal) → number_of p ≡ number_of q → p ≡ q
+
+-- row after row, from an answer on
+abbrev pub after : Result Unit Refusal → List Row → Result Unit Refusal
 after o [] = o
-after o (r ∷ rs) = after (or_row o r.condition r.number) rs
+after o (r ∷ rs) = after (or_row o r.condition r.refusal) rs
 
--- all rows taken in order from no refusal on, the outcome is the first row's that applies
+-- all rows taken in order from no refusal on, the answer is the first row's that applies
 abbrev pub Accumulated : Type 0
-Accumulated = (rs : List Row) → after Accepted rs ≡ first_of rs
+Accumulated = (rs : List Row) → after (Ok tt) rs ≡ first_of rs
 
 -- no refusal is given exactly where no row applies
 abbrev pub NoRefusalExactly : Type 0
-NoRefusalExactly = (rs : List Row) → (first_of rs ≡ Accepted) ↔ NoneApplies rs
+NoRefusalExactly = (rs : List Row) → (first_of rs ≡ Ok tt) ↔ NoneApplies rs
 
 -- A number tells the end that was missed, whatever the places of the check: no place gives for one end what any gives for the other.
 abbrev pub TellsEnd : Type 0

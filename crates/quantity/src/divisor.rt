@@ -9,10 +9,8 @@ pub(crate) fn largest_common_divisor(a: u64, b: u64) -> u64
 {
     let mut first = a;
     let mut second = b;
-    while 0 < second {
-        let rest = first % second;
-        first = second;
-        second = rest;
+    while second != 0 {
+        (first, second) = (second, first % second);
     }
     first
 }

@@ -6,7 +6,7 @@ ghost use Rattle.quantity.specs.Divisors.{reduced};
 use crate::divisor::largest_common_divisor;
 
 // Any content can stand here.
-#[derive(Clone, Copy)]
+#[derive(Clone, Copy, Debug)]
 pub struct Fraction {
     pub numerator: u64,
     // the lower number

@@ -1,5 +1,5 @@
-// What every crate shares: the units of temperature and of difference, exact fractions and their lowest terms, the refusal
-// table's rows, the numbers of a temperature's two ends, and the comparison of two products of 64-bit numbers.
+// What every crate shares: the units of temperature and of difference, exact fractions and their lowest terms, the refusals and the
+// rows of their table, those of a temperature's two ends, and the comparison of two products of 64-bit numbers.
 #![tactic(auto)]
 
 mod divisor;
@@ -11,6 +11,6 @@ mod units;
 
 pub use fraction::Fraction;
 pub use product::product_less;
-pub use range::{End, Position, end_number};
-pub use refusal::{Outcome, is_outside};
-pub use units::{Difference, LARGEST_KELVINS, LAST_DEGREE, LAST_HUNDREDTH, Temperature};
+pub use range::{End, Position, end_refusal};
+pub use refusal::{Refusal, Row, first_refusal, is_outside};
+pub use units::{Difference, LARGEST_KELVINS, LAST_DEGREE, LAST_HUNDREDTH, Temperature, Unit};

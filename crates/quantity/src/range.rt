@@ -1,9 +1,11 @@
-// The refusal number where a temperature misses its range, by the place of the check and the end that was missed.
+// The refusal where a temperature misses its range, by the place of the check and the end that was missed.
 ghost use Rattle.std.specs.Prelude.{◌≡◌};
-ghost use Rattle.quantity.specs.Range.{end_number};
+ghost use Rattle.quantity.specs.Range.{end_refusal};
+
+use crate::refusal::Refusal;
 
 // Where a temperature is asked for: by itself, in the supply pipe, in the return pipe.
-#[derive(Clone, Copy)]
+#[derive(Clone, Copy, Debug, PartialEq, Eq)]
 pub enum Position {
     Alone,
     Supply,
@@ -11,27 +13,21 @@ pub enum Position {
 }
 
 // The end of the range that was missed.
-#[derive(Clone, Copy)]
+#[derive(Clone, Copy, Debug, PartialEq, Eq)]
 pub enum End {
     Low,
     High,
 }
 
-// The number of a missed end. Each position has one for either end.
-#[tactic(auto, unfolding(crate::specs::Range::end_number))]
-pub fn end_number(position: Position, end: End) -> u64
-    ensures { result ≡ end_number position end }
+// The refusal of a missed end. Each position has one for either end.
+#[tactic(auto, unfolding(crate::specs::Range::end_refusal))]
+pub fn end_refusal(position: Position, end: End) -> Refusal
+    ensures { result ≡ end_refusal position end }
 {
-    match end {
-        End::Low => match position {
-            Position::Alone => 32,
-            Position::Supply => 32,
-            Position::Return => 33,
-        },
-        End::High => match position {
-            Position::Alone => 70,
-            Position::Supply => 70,
-            Position::Return => 71,
-        },
+    match (position, end) {
+        (Position::Alone | Position::Supply, End::Low) => Refusal::SupplyBelowRange,
+        (Position::Return, End::Low) => Refusal::ReturnBelowRange,
+        (Position::Alone | Position::Supply, End::High) => Refusal::SupplyAboveRange,
+        (Position::Return, End::High) => Refusal::ReturnAboveRange,
     }
 }

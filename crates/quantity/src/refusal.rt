@@ -1,32 +1,98 @@
-// A check's outcome, and how code takes one row of the refusal table after another (document 01, "Refusals, by
-// the place of the check").
+// The refusals, and how code takes the rows of their table (document 01, "Refusals, by the place of the check").
 ghost use Rattle.std.specs.Prelude.{◌≡◌};
-ghost use Rattle.quantity.specs.Refusals.{or_row, outside};
+ghost use Rattle.quantity.specs.Refusals.{first_of, number_of, outside, row};
 
-// No refusal, or the refusal's number.
-#[derive(Clone, Copy)]
-pub enum Outcome {
-    Accepted,
-    Refused(u64),
+use std::fmt;
+
+// A refusal, with the number that the papers give it.
+#[derive(Clone, Copy, Debug, PartialEq, Eq)]
+pub enum Refusal {
+    Serial = 10,
+    Place = 11,
+    SensorKind = 12,
+    PulseVolume = 13,
+    ThetaRange = 14,
+    DeltaMin = 15,
+    DeltaMax = 16,
+    FlowRates = 17,
+    PowerLimit = 18,
+    State = 20,
+    CountsFull = 21,
+    Seconds = 30,
+    Volume = 31,
+    SupplyBelowRange = 32,
+    ReturnBelowRange = 33,
+    SupplyOutsideTheta = 34,
+    ReturnOutsideTheta = 35,
+    SupplyBelowReturn = 36,
+    DifferenceTooSmall = 37,
+    DifferenceTooLarge = 38,
+    FlowAboveQs = 39,
+    PowerAbovePs = 40,
+    RegisterFull = 41,
+    Part = 50,
+    Class = 51,
+    Stage = 52,
+    TestDifference = 53,
+    TestFlow = 54,
+    Values = 55,
+    Edition = 60,
+    Shape = 61,
+    Number = 62,
+    Totals = 64,
+    BytesAfter = 65,
+    Room = 66,
+    PlaceBeyond = 67,
+    InputSize = 68,
+    SupplyAboveRange = 70,
+    ReturnAboveRange = 71,
+    OneEditionAlone = 72,
 }
 
-impl Outcome {
-    // The outcome after one row more: an earlier refusal stands; otherwise the row decides.
-    #[tactic(auto, unfolding(crate::specs::Refusals::or_row))]
-    pub fn or_row(self, refuses: bool, number: u64) -> Outcome
-        ensures { result ≡ or_row self refuses number }
+impl Refusal {
+    #[tactic(auto, unfolding(crate::specs::Refusals::number_of))]
+    pub fn number(self) -> u64
+        ensures { result ≡ number_of self }
     {
-        match self {
-            Outcome::Accepted => {
-                if refuses {
-                    Outcome::Refused(number)
-                } else {
-                    Outcome::Accepted
-                }
-            }
-            Outcome::Refused(earlier) => Outcome::Refused(earlier),
+        self as u64
+    }
+
+    // The row that gives this refusal under a condition.
+    pub fn when(self, condition: bool) -> Row
+        ensures { result ≡ row self condition }
+    {
+        Row {
+            refusal: self,
+            condition,
         }
     }
+}
+
+// A refusal is printed as its number.
+impl fmt::Display for Refusal {
+    fn fmt<W: fmt::Write>(&self, f: &mut fmt::Formatter<W>) -> fmt::Result {
+        self.number().fmt(f)
+    }
+}
+
+// A row of the table: a refusal, and the condition under which it is given.
+#[derive(Clone, Copy, Debug, PartialEq, Eq)]
+pub struct Row {
+    pub refusal: Refusal,
+    pub condition: bool,
+}
+
+// The refusal of the first row whose condition holds.
+#[tactic(auto, using(crate::proofs::Rows::row_applies, crate::proofs::Rows::row_passes, crate::proofs::Rows::rows_end))]
+pub fn first_refusal(rows: &[Row]) -> Result<(), Refusal>
+    ensures { result ≡ first_of rows.now }
+{
+    for row in rows {
+        if row.condition {
+            return Err(row.refusal);
+        }
+    }
+    Ok(())
 }
 
 // Whether x lies outside low..high, a condition of many rows.
@@ -34,8 +100,5 @@ impl Outcome {
 pub fn is_outside(x: u64, low: u64, high: u64) -> bool
     ensures { result ≡ outside x low high }
 {
-    if x < low {
-        return true;
-    }
-    high < x
+    x < low || high < x
 }

@@ -1,7 +1,9 @@
 // The two units of document 01, "Temperature". Each is a type of its own, so that the checker refuses one in the
 // other's place. Any content can stand in either: the operations that take them refuse what is out of range.
-ghost use Rattle.std.specs.Prelude.{◌≡◌};
-ghost use Rattle.quantity.specs.Units.{is_colder, is_smaller, distance_of, whole_degrees, whole_kelvins};
+ghost use Rattle.std.specs.Prelude.{◌≡◌, refl, ℕ, ◌*◌, Bool, ◌||◌};
+ghost use Rattle.std.specs.Ordering.{partial_lt};
+ghost use Rattle.std.proofs.Common.{rules};
+ghost use Rattle.quantity.specs.Units.{is_colder, is_smaller, distance_of};
 
 // The last temperature, in hundredths of a degree Celsius and in whole degrees, and the largest difference, in whole kelvins.
 pub const LAST_HUNDREDTH: u64 = 18000;
@@ -10,52 +12,71 @@ pub const LAST_DEGREE: u64 = 180;
 
 pub const LARGEST_KELVINS: u64 = 180;
 
+// A unit in which hundredths are counted: its values are ordered by them.
+pub trait Unit: Copy + PartialOrd + Sized {
+    ghost hundredths: { Self → ℕ };
+
+    ghost is_less: { Self → Self → Bool };
+
+    fn of_hundredths(count: u64) -> Self
+        ensures { hundredths result ≡ count };
+
+    // So many whole ones. Every count of 32 bits has a value, so nothing is refused.
+    fn whole(count: u32) -> Self
+        ensures { hundredths result ≡ count * 100 }
+    {
+        Self::of_hundredths(u64::from(count) * 100)
+    }
+
+    // Whether the value lies outside low..high.
+    fn is_outside(self, low: Self, high: Self) -> bool
+        ensures { result ≡ (is_less self low || is_less high self) }
+    {
+        self < low || high < self
+    }
+
+    // What each `impl` must prove of its `<`.
+    ghost ordered: { (a b : Self) → partial_lt Self.PartialOrd.partial_cmp a b ≡ is_less a b };
+}
+
 // A temperature in hundredths of a degree Celsius.
-#[derive(Clone, Copy)]
+#[derive(Clone, Copy, Debug, PartialEq, Eq, PartialOrd, Ord)]
 pub struct Temperature(pub u64);
 
-// A temperature difference in hundredths of a kelvin.
-#[derive(Clone, Copy)]
-pub struct Difference(pub u64);
+impl Unit for Temperature {
+    ghost hundredths = { λ t. t.0 };
 
-impl Temperature {
-    // A temperature of whole degrees. Every count of 32 bits has one, so nothing is refused.
-    pub fn of_degrees(degrees: u32) -> Temperature
-        ensures { result ≡ whole_degrees degrees }
-    {
-        Temperature((degrees as u64) * 100)
-    }
+    ghost is_less = { is_colder };
 
-    pub fn is_below(self, other: Temperature) -> bool
-        ensures { result ≡ is_colder self other }
-    {
-        self.0 < other.0
-    }
+    ghost ordered = { λ a b. Prim.search rules };
 
-    // How far two temperatures lie apart, whichever is the larger.
-    #[tactic(auto, using(crate::proofs::Distance::upwards, crate::proofs::Distance::downwards))]
-    pub fn distance(self, other: Temperature) -> Difference
-        ensures { result ≡ distance_of self other }
-    {
-        if self.0 < other.0 {
-            Difference(other.0 - self.0)
-        } else {
-            Difference(self.0 - other.0)
-        }
+    fn of_hundredths(count: u64) -> Temperature {
+        Temperature(count)
     }
 }
 
-impl Difference {
-    // A difference of whole kelvins.
-    pub fn of_kelvins(kelvins: u32) -> Difference
-        ensures { result ≡ whole_kelvins kelvins }
-    {
-        Difference((kelvins as u64) * 100)
-    }
+// A temperature difference in hundredths of a kelvin.
+#[derive(Clone, Copy, Debug, PartialEq, Eq, PartialOrd, Ord)]
+pub struct Difference(pub u64);
 
-    pub fn is_below(self, other: Difference) -> bool
-        ensures { result ≡ is_smaller self other }
+impl Unit for Difference {
+    ghost hundredths = { λ d. d.0 };
+
+    ghost is_less = { is_smaller };
+
+    ghost ordered = { λ a b. Prim.search rules };
+
+    fn of_hundredths(count: u64) -> Difference {
+        Difference(count)
+    }
+}
+
+impl Temperature {
+    // How far two temperatures lie apart, whichever is the larger.
+    #[tactic(auto, unfolding(crate::specs::Units::distance_of))]
+    pub fn distance(self, other: Temperature) -> Difference
+        ensures { result ≡ distance_of self other }
     {
-        self.0 < other.0
+        Difference(self.0.abs_diff(other.0))
     }
 }

@@ -1,6 +1,6 @@
 -- `quantity::divisor::largest_common_divisor` meets its contract. The loop's invariant: the two numbers have the largest common divisor that those
 -- given have. Each turn, the second one falls.
-use Rattle.std.proofs.Common.{◌≡◌, ℕ, ◌+◌, ◌-◌, ◌*◌, ◌^◌, ◌<◌, ◌≤◌, length, take, drop, get_or, List, [], ◌∷◌, ◌++◌, true, false}
+use Rattle.std.proofs.Common.{◌≡◌}
 use Rattle.quantity.specs.Divisors.{largest_common_divisor}
 use Rattle.quantity.proofs.divisor.largest_common_divisor.Given as goal
 
