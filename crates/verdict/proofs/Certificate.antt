@@ -1,11 +1,11 @@
 -- The limit in lowest terms, and the verdict from the two operations.
 -- Assumes nothing.
-use mathlib.Core.Path.{◌≡◌, refl, sym, ◌∙◌, ap}
-use mathlib.Core.Bool.{Bool, true, false, cond}
-use Prim.Native.Nat.{ℕ}
-use lib.Dec.{eqb}
+use mathlib.Core.Path.{◌≡◌, refl, sym, ◌∙◌, ap, subst}
+use mathlib.Core.Bool.{Bool}
+use Prim.Native.Nat.{ℕ, ◌*◌}
+use native.Mathlib.Omega.{arith}
 use Rattle.quantity.specs.Divisors.{reduced}
-use Rattle.quantity.specs.Fractions.{whole, times, Represents}
+use Rattle.quantity.specs.Fractions.{◌over◌, times, Represents}
 use Rattle.quantity.specs.Refusals.{first_of, or_row}
 use Rattle.quantity.proofs.Fractions.{doubled, above_zero_too}
 use Rattle.quantity.proofs.LowestTerms.{reduced_represents, reduced_exactly, same_reduced, whole_reduced}
@@ -17,8 +17,15 @@ use Rattle.verdict.specs.Limit.{figures_of, part_limit, limit_at_stage, limit_of
 use Rattle.verdict.specs.Rows.{value_outside, point_rows, Admitted}
 use Rattle.verdict.specs.Theorems.{LimitExactly, WholePercent, LimitAboveZero, compared_with, FromPair}
 use Rattle.verdict.specs.Verdict.{passes, answer, refused_or, verdict_of}
+use Rattle.verdict.specs.Inside.Admitted.{point_of}
+use Rattle.verdict.specs.declared.admitted.AdmittedPoint.{AdmittedPoint}
 use Rattle.verdict.specs.declared.class.Figures.{Figures}
-use Rattle.verdict.specs.declared.limit.ErrorLimit.TheVariants.{Percent}
+use Rattle.verdict.specs.Inside.Kinds.{stage_number}
+use Rattle.verdict.specs.declared.kinds.Stage.{Stage}
+use Rattle.verdict.specs.declared.kinds.Stage.TheVariants.{Verification, InService}
+use Rattle.verdict.specs.declared.bench.Verdict.TheVariants.{Refused}
+use Rattle.verdict.specs.declared.limit.ErrorLimit.{ErrorLimit}
+use Rattle.verdict.specs.declared.limit.ErrorLimit.TheVariants.{Percent, Refused as LimitRefused}
 use Rattle.verdict.specs.declared.point.TestPoint.{TestPoint}
 use Rattle.verdict.proofs.Comparisons.{one_row, of_values, equal_comparisons}
 use Rattle.verdict.proofs.Positive.{limit_is_fraction, limit_above}
@@ -54,13 +61,21 @@ limit_above_zero p r e =
     above_zero_too r (limit_at p) h.1 (limit_above p h.0)
 
 -- the stage, for any fraction that equals the limit at verification
-pub limit_at_stage_lem : (f : Figures) (p : TestPoint) (r : Fraction) → Represents r (part_limit f p) → Represents (limit_at_stage p.stage r) (limit_of f p)
+abbrev at_stage : Stage → Fraction → Fraction
+at_stage s l = limit_at_stage (stage_number s) l
+
+pub at_verification : (f : Figures) (a : AdmittedPoint) (r : Fraction) → a.stage ≡ Verification → Represents r (part_limit f (point_of a)) →
+    Represents r (limit_of f (point_of a))
 unfolding limit_of
-limit_at_stage_lem f p r h = go (eqb p.stage 1)
-  where
-    go : (b : Bool) → Represents (cond b r (times (whole 2) r)) (cond b (part_limit f p) (times (whole 2) (part_limit f p)))
-    go true = h
-    go false = doubled r (part_limit f p) h
+at_verification f a r e h = subst (λ (s : Stage). Represents r (at_stage s (part_limit f (point_of a)))) (sym e) h
+
+pub in_service : (f : Figures) (a : AdmittedPoint) (r : Fraction) → a.stage ≡ InService → Represents r (part_limit f (point_of a)) →
+    Represents (2 * r.numerator over r.denominator) (limit_of f (point_of a))
+unfolding limit_of times
+in_service f a r e h =
+    let d = doubled r (part_limit f (point_of a)) h in
+    subst (λ (s : Stage). Represents (2 * r.numerator over r.denominator) (at_stage s (part_limit f (point_of a)))) (sym e)
+    (record { is_fraction = omega (arith, d.is_fraction); same = omega (arith, d.same) })
 
 -- any fraction that equals the limit gives the answer
 pub printed : (p : TestPoint) (r : Fraction) → Admitted p → Represents r (limit_at p) → Percent (reduced r) ≡ error_limit_of p
@@ -83,3 +98,10 @@ pub from_pair : FromPair
 unfolding error_limit_of verdict_of
 from_pair p i x =
     by_outcome (first_of (point_rows p)) p i x (λ e. e) ∙ ap (λ (o : Outcome). refused_or o (answer (passes (limit_at p) i x))) (last_row p i x)
+
+-- as the code meets it, by the limit's answer
+pub of_limit : (p : TestPoint) (l : Fraction) (i x : ℕ) → error_limit_of p ≡ Percent l → comparison_of l i x ≡ verdict_of p i x
+of_limit p l i x e = ap (λ (a : ErrorLimit). compared_with a i x) (sym e) ∙ from_pair p i x
+
+pub of_refusal : (p : TestPoint) (n i x : ℕ) → error_limit_of p ≡ LimitRefused n → Refused n ≡ verdict_of p i x
+of_refusal p n i x e = ap (λ (a : ErrorLimit). compared_with a i x) (sym e) ∙ from_pair p i x

@@ -8,33 +8,45 @@ use borrow.Author.Tests.{ltb-false}
 use Rattle.quantity.specs.Units.{largest_kelvins}
 use Rattle.quantity.proofs.Conditions.{neither, inside}
 use Rattle.quantity.proofs.Rows.{none_applies}
+use Rattle.quantity.specs.declared.units.Difference.{Difference}
 use Rattle.verdict.specs.Rows.{difference_outside, largest_flow, flow_outside, largest_value, value_outside, point_rows, Admitted}
 use Rattle.verdict.specs.declared.point.TestPoint.{TestPoint}
 
+-- where 53 is not given
+pub record DifferenceInRange (m : ℕ) (d : Difference) : Type 0 where
+  pub delta_min : (1 ≤ m) × (m ≤ 3)
+  pub difference : (m * 100 ≤ d.0) × (d.0 ≤ 100 * largest_kelvins)
+
+pub difference_in_range : (m : ℕ) (d : Difference) → difference_outside m d ≡ false → DifferenceInRange m d
+unfolding difference_outside
+difference_in_range m d e =
+    let n = neither _ _ e in
+    let s = neither _ _ n.0 in
+    record { delta_min = inside _ _ _ s.0; difference = (ltb-false _ _ s.1, ltb-false _ _ n.1) }
+
+-- where 54 is not given
+pub record FlowInRange (qp q : ℕ) : Type 0 where
+  pub qp_in_range : (1 ≤ qp) × (qp ≤ largest_flow)
+  pub q_in_range : (1 ≤ q) × (q ≤ largest_flow)
+
+pub flow_in_range : (qp q : ℕ) → flow_outside qp q ≡ false → FlowInRange qp q
+unfolding flow_outside
+flow_in_range qp q e =
+    let n = neither _ _ e in
+    record { qp_in_range = inside _ _ _ n.0; q_in_range = inside _ _ _ n.1 }
+
 pub record InRange (p : TestPoint) : Type 0 where
-  pub part : (1 ≤ p.part) × (p.part ≤ 4)
   pub class : (1 ≤ p.class) × (p.class ≤ 3)
-  pub stage : (1 ≤ p.stage) × (p.stage ≤ 2)
-  pub delta_min : (1 ≤ p.delta_min) × (p.delta_min ≤ 3)
-  pub difference : (p.delta_min * 100 ≤ p.difference.0) × (p.difference.0 ≤ 100 * largest_kelvins)
-  pub qp : (1 ≤ p.qp) × (p.qp ≤ largest_flow)
-  pub q : (1 ≤ p.q) × (p.q ≤ largest_flow)
+  pub difference : DifferenceInRange p.delta_min p.difference
+  pub flow : FlowInRange p.qp p.q
 
 pub ranges : (p : TestPoint) → Admitted p → InRange p
-unfolding difference_outside flow_outside
 ranges p e =
     let n = none_applies (point_rows p) e in
-    let d = neither _ _ n.1.1.1.0 in
-    let m = neither _ _ d.0 in
-    let f = neither _ _ n.1.1.1.1.0 in
     record {
-      part = inside _ _ _ n.0;
       class = inside _ _ _ n.1.0;
-      stage = inside _ _ _ n.1.1.0;
-      delta_min = inside _ _ _ m.0;
-      difference = (ltb-false _ _ m.1, ltb-false _ _ d.1);
-      qp = inside _ _ _ f.0;
-      q = inside _ _ _ f.1;
+      difference = difference_in_range _ _ n.1.1.1.0;
+      flow = flow_in_range _ _ n.1.1.1.1.0;
     }
 
 pub values : (i x : ℕ) → value_outside i x ≡ false → (i ≤ largest_value) × (x ≤ largest_value)

@@ -30,5 +30,5 @@ unfolding plus
 pub at_most_10 : AtMost10
 unfolding complete_limit
 at_most_10 class l m p a =
-    let r = (ranges p a).difference.0 in
+    let r = (ranges p a).difference.difference.0 in
     10-in-all _ (sums _ _ _ _ (sums _ _ _ _ (of_calculator p r) (of_pair p r)) (of_flow_sensor class l m p))

@@ -1,2 +1,5 @@
 -- What only functions inside this crate, and the proofs of them, cite. None of it is part of what a public operation means.
 pub mod Fit
+pub mod Kinds
+pub mod Admitted
+pub mod Compared

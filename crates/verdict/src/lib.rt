@@ -2,10 +2,13 @@
 // sub-assemblies, and whether an indicated value lies within them (document 01, "Error verdict"; document 02, request 4).
 #![tactic(auto)]
 
+mod admitted;
 mod bench;
 mod class;
+mod kinds;
 mod limit;
 mod point;
+mod values;
 
 pub use bench::{Verdict, compare_error, error_verdict};
 pub use limit::{ErrorLimit, error_limit};

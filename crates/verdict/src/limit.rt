@@ -3,13 +3,14 @@
 ghost use Rattle.std.specs.Prelude.{◌≡◌, ◌+◌, ◌*◌, ◌^◌, ◌≤◌, min};
 ghost use Rattle.quantity.specs.Fractions.{Represents};
 ghost use Rattle.verdict.specs.Certificate.{error_limit_of};
-ghost use Rattle.verdict.specs.Limit.{part_limit, limit_at_stage};
-ghost use Rattle.verdict.specs.Inside.Fit.{FiguresFit};
-ghost use Rattle.verdict.specs.Rows.{largest_flow, Admitted};
+ghost use Rattle.verdict.specs.Limit.{figures_of, part_limit, limit_of};
+ghost use Rattle.verdict.specs.Inside.Admitted.{point_of};
+ghost use Rattle.verdict.specs.Inside.Kinds.{class_number};
 
-use crate::class::{Figures, figures_of_class};
+use crate::admitted::AdmittedPoint;
+use crate::kinds::{Part, Stage};
 use crate::point::TestPoint;
-use quantity::{Fraction, Outcome};
+use quantity::Fraction;
 
 // The answer on a test point's limit.
 #[derive(Clone, Copy)]
@@ -20,79 +21,75 @@ pub enum ErrorLimit {
     Refused(u64),
 }
 
-// The flow sensor's limit at verification, times 100 × q: what the cap leaves of constant + factor × qp/q.
-fn flow_sensor_part(figures: Figures, qp: u64, q: u64) -> u64
-    requires { (FiguresFit figures) × (qp ≤ largest_flow) × (q ≤ largest_flow) }
-    ensures { result ≡ min (figures.constant * q + figures.factor * qp) (figures.cap * q) }
-{
-    let sum = figures.constant * q + figures.factor * qp;
-    let most = figures.cap * q;
-    if sum <= most { sum } else { most }
-}
-
-// The limit of the point's part at verification. The calculator's 0.5 + Δmin/Δ and the pair's 0.5 + 3×Δmin/Δ are counted
-// in 1/(2×D) percent, the flow sensor's in 1/(100×q): so each number fits 64 bits, for figures of up to 100 percent.
-#[tactic(auto, using(crate::proofs::Pieces::calculator, crate::proofs::Pieces::pair, crate::proofs::Pieces::flow_sensor, crate::proofs::Ranges::ranges, crate::proofs::Room::room), unfolding(crate::specs::Limit::part_limit))]
-fn part_limit(figures: Figures, point: TestPoint) -> Fraction
-    requires { (FiguresFit figures) × (Admitted point) }
-    ensures { (Represents result (part_limit figures point)) × (result.numerator ≤ 10 ^ 18) }
-{
-    let d = point.difference.0;
-    let calculator = d + 200 * point.delta_min;
-    let pair = d + 600 * point.delta_min;
-    let flow = flow_sensor_part(figures, point.qp, point.q);
-    let per_difference = 2 * d;
-    let per_flow = 100 * point.q;
-    let part = point.part;
-    match part {
-        1 => Fraction {
-            numerator: calculator,
-            denominator: per_difference,
-        },
-        2 => Fraction {
-            numerator: pair,
-            denominator: per_difference,
-        },
-        3 => Fraction {
-            numerator: flow,
-            denominator: per_flow,
-        },
-        _ => Fraction {
-            numerator: (calculator + pair) * per_flow + flow * per_difference,
-            denominator: per_difference * per_flow,
-        },
+impl AdmittedPoint {
+    // The flow sensor's limit at verification, times 100 × q: what the cap leaves of constant + factor × qp/q.
+    fn flow_sensor_part(self) -> u64
+        ensures as_stated { let f = figures_of (class_number self.class) in
+            result ≡ min (f.constant * self.q + f.factor * self.qp) (f.cap * self.q) }
+        ensures fits { result ≤ 10 ^ 13 }
+    {
+        let figures = self.class.figures();
+        let sum = figures.constant * self.q + figures.factor * self.qp;
+        let most = figures.cap * self.q;
+        sum.min(most)
     }
-}
 
-// The limit at a stage, from the one at verification: in service, twice as much.
-#[tactic(auto, unfolding(quantity::specs::Fractions::times))]
-fn limit_at_stage(at_verification: Fraction, stage: u64) -> Fraction
-    requires { at_verification.numerator ≤ 10 ^ 18 }
-    ensures { result ≡ limit_at_stage stage at_verification }
-{
-    if stage == 1 {
-        return at_verification;
+    // The limit of the point's part at verification. The calculator's 0.5 + Δmin/Δ and the pair's 0.5 + 3×Δmin/Δ are counted
+    // in 1/(2×D) percent, the flow sensor's in 1/(100×q): so each number fits 64 bits, for figures of up to 100 percent.
+    #[tactic(auto, using(crate::proofs::Pieces::calculator, crate::proofs::Pieces::pair, crate::proofs::Pieces::flow_sensor, crate::proofs::Pieces::complete, crate::proofs::Room::room))]
+    fn at_verification(self) -> Fraction
+        ensures exact { Represents result (part_limit (figures_of (class_number self.class)) (point_of self)) }
+        ensures fits { result.numerator ≤ 10 ^ 18 }
+    {
+        let d = self.difference.0;
+        let calculator = d + 200 * self.delta_min;
+        let pair = d + 600 * self.delta_min;
+        let flow = self.flow_sensor_part();
+        let per_difference = 2 * d;
+        let per_flow = 100 * self.q;
+        match self.part {
+            Part::Calculator => Fraction {
+                numerator: calculator,
+                denominator: per_difference,
+            },
+            Part::SensorPair => Fraction {
+                numerator: pair,
+                denominator: per_difference,
+            },
+            Part::FlowSensor => Fraction {
+                numerator: flow,
+                denominator: per_flow,
+            },
+            Part::Complete => Fraction {
+                numerator: (calculator + pair) * per_flow + flow * per_difference,
+                denominator: per_difference * per_flow,
+            },
+        }
     }
-    let twice = 2 * at_verification.numerator;
-    Fraction {
-        numerator: twice,
-        denominator: at_verification.denominator,
+
+    // The limit at the point's stage: in service, twice the one at verification.
+    #[tactic(auto, using(crate::proofs::Certificate::at_verification, crate::proofs::Certificate::in_service))]
+    fn limit(self) -> Fraction
+        ensures { Represents result (limit_of (figures_of (class_number self.class)) (point_of self)) }
+    {
+        let at_verification = self.at_verification();
+        match self.stage {
+            Stage::Verification => at_verification,
+            Stage::InService => Fraction {
+                numerator: 2 * at_verification.numerator,
+                denominator: at_verification.denominator,
+            },
+        }
     }
 }
 
 // The limit of a test point, or the first of the refusals 50 to 54.
-#[tactic(auto, using(crate::proofs::Certificate::limit_at_stage_lem, crate::proofs::Certificate::printed, crate::proofs::ClassFigures::figures_fit, crate::proofs::Ranges::ranges), unfolding(crate::specs::Certificate::error_limit_of, crate::specs::Certificate::refused_or_limit))]
+#[tactic(auto, using(crate::proofs::Certificate::printed), unfolding(crate::specs::Certificate::error_limit_of, crate::specs::Certificate::refused_or_limit))]
 pub fn error_limit(point: TestPoint) -> ErrorLimit
     ensures { result ≡ error_limit_of point }
 {
-    let refusal = point.refusal();
-    match refusal {
-        Outcome::Refused(number) => ErrorLimit::Refused(number),
-        Outcome::Accepted => {
-            let at_verification = part_limit(figures_of_class(point.class), point);
-            let limit = limit_at_stage(at_verification, point.stage);
-            let lowest = limit.reduced();
-            ErrorLimit::Percent(lowest)
-        }
+    match AdmittedPoint::try_from(point) {
+        Ok(admitted) => ErrorLimit::Percent(admitted.limit().reduced()),
+        Err(number) => ErrorLimit::Refused(number),
     }
 }

@@ -1,9 +1,8 @@
 // A test point of the bench, and the refusals 50 to 54 of document 01's row "Verdict".
 ghost use Rattle.std.specs.Prelude.{◌≡◌};
-ghost use Rattle.quantity.specs.Refusals.{first_of};
-ghost use Rattle.verdict.specs.Rows.{difference_outside, flow_outside, point_rows};
+ghost use Rattle.verdict.specs.Rows.{difference_outside, flow_outside};
 
-use quantity::{Difference, LARGEST_KELVINS, Outcome, is_outside};
+use quantity::{Difference, LARGEST_KELVINS, is_outside};
 
 // The largest flow rate that 54 lets pass.
 const LARGEST_FLOW: u64 = 1000000000;
@@ -28,38 +27,18 @@ pub struct TestPoint {
 
 // The condition of 54.
 #[tactic(auto, unfolding(crate::specs::Rows::flow_outside))]
-fn is_flow_outside(qp: u64, q: u64) -> bool
+pub(crate) fn is_flow_outside(qp: u64, q: u64) -> bool
     ensures { result ≡ flow_outside qp q }
 {
-    if is_outside(qp, 1, LARGEST_FLOW) {
-        return true;
-    }
-    is_outside(q, 1, LARGEST_FLOW)
+    is_outside(qp, 1, LARGEST_FLOW) || is_outside(q, 1, LARGEST_FLOW)
 }
 
 // The condition of 53. Δmin comes first: only a small one is counted in hundredths without passing 64 bits.
 #[tactic(auto, using(quantity::proofs::Conditions::inside), unfolding(crate::specs::Rows::difference_outside))]
-fn is_difference_outside(delta_min: u64, difference: Difference) -> bool
+pub(crate) fn is_difference_outside(delta_min: u64, difference: Difference) -> bool
     ensures { result ≡ difference_outside delta_min difference }
 {
-    if is_outside(delta_min, 1, 3) {
-        return true;
-    }
-    if difference.is_below(Difference::of_kelvins(delta_min as u32)) {
-        return true;
-    }
-    Difference::of_kelvins(LARGEST_KELVINS as u32).is_below(difference)
-}
-
-impl TestPoint {
-    // The first of the refusals 50 to 54.
-    pub(crate) fn refusal(self) -> Outcome
-        ensures { result ≡ first_of (point_rows self) }
-    {
-        let r = Outcome::Accepted.or_row(is_outside(self.part, 1, 4), 50);
-        let r = r.or_row(is_outside(self.class, 1, 3), 51);
-        let r = r.or_row(is_outside(self.stage, 1, 2), 52);
-        let r = r.or_row(is_difference_outside(self.delta_min, self.difference), 53);
-        r.or_row(is_flow_outside(self.qp, self.q), 54)
-    }
+    is_outside(delta_min, 1, 3)
+        || difference.is_below(Difference::of_kelvins(delta_min as u32))
+        || Difference::of_kelvins(LARGEST_KELVINS as u32).is_below(difference)
 }

@@ -1,0 +1,25 @@
+-- What a test point is once its kinds are read and no row refuses it.
+use Rattle.std.specs.Prelude.{◌≡◌, ℕ, Result, MatchResult}
+use Rattle.quantity.specs.Refusals.{first_of}
+use Rattle.quantity.specs.declared.refusal.Outcome.TheVariants.{Refused}
+use Rattle.verdict.specs.Rows.{point_rows, Admitted}
+use Rattle.verdict.specs.Inside.Kinds.{part_number, class_number, stage_number}
+use Rattle.verdict.specs.declared.admitted.AdmittedPoint.{AdmittedPoint}
+use Rattle.verdict.specs.declared.point.TestPoint.{TestPoint}
+
+-- the test point that it was, each kind the number that names it
+abbrev pub point_of : AdmittedPoint → TestPoint
+point_of a =
+    record {
+      part = part_number a.part;
+      class = class_number a.class;
+      stage = stage_number a.stage;
+      delta_min = a.delta_min;
+      difference = a.difference;
+      qp = a.qp;
+      q = a.q;
+    }
+
+-- a test point that no row refuses is admitted as it is, and of any other the first row's refusal is the error
+abbrev pub Admits : TestPoint → Result AdmittedPoint ℕ → Type 0
+Admits p r = MatchResult r (λ a. (point_of a ≡ p) × Admitted p) (λ n. first_of (point_rows p) ≡ Refused n)

@@ -1,0 +1,78 @@
+// The kinds that a test point names by number: its part, its class and its stage. Each is read once, and no other number is any.
+ghost use Rattle.std.specs.Prelude.{◌≡◌};
+ghost use Rattle.verdict.specs.Inside.Kinds.{part_number, class_number, stage_number, Reads};
+
+// What is tested.
+#[derive(Clone, Copy, Debug, PartialEq, Eq)]
+pub(crate) enum Part {
+    Calculator,
+    SensorPair,
+    FlowSensor,
+    Complete,
+}
+
+// The accuracy class.
+#[derive(Clone, Copy, Debug, PartialEq, Eq)]
+pub(crate) enum Class {
+    One,
+    Two,
+    Three,
+}
+
+// Where the limit is asked for.
+#[derive(Clone, Copy, Debug, PartialEq, Eq)]
+pub(crate) enum Stage {
+    Verification,
+    InService,
+}
+
+// The part, or 50.
+impl TryFrom<u64> for Part {
+    type Error = u64;
+
+    ghost try_from_gives = { Reads part_number 4 50 };
+
+    #[tactic(auto, unfolding(quantity::specs::Refusals::outside))]
+    fn try_from(number: u64) -> Result<Self, u64> {
+        match number {
+            1 => Ok(Part::Calculator),
+            2 => Ok(Part::SensorPair),
+            3 => Ok(Part::FlowSensor),
+            4 => Ok(Part::Complete),
+            _ => Err(50),
+        }
+    }
+}
+
+// The class, or 51.
+impl TryFrom<u64> for Class {
+    type Error = u64;
+
+    ghost try_from_gives = { Reads class_number 3 51 };
+
+    #[tactic(auto, unfolding(quantity::specs::Refusals::outside))]
+    fn try_from(number: u64) -> Result<Self, u64> {
+        match number {
+            1 => Ok(Class::One),
+            2 => Ok(Class::Two),
+            3 => Ok(Class::Three),
+            _ => Err(51),
+        }
+    }
+}
+
+// The stage, or 52.
+impl TryFrom<u64> for Stage {
+    type Error = u64;
+
+    ghost try_from_gives = { Reads stage_number 2 52 };
+
+    #[tactic(auto, unfolding(quantity::specs::Refusals::outside))]
+    fn try_from(number: u64) -> Result<Self, u64> {
+        match number {
+            1 => Ok(Stage::Verification),
+            2 => Ok(Stage::InService),
+            _ => Err(52),
+        }
+    }
+}
