@@ -1,7 +1,8 @@
 -- Laws of a pass.
 -- Assumes nothing.
-use mathlib.Core.Path.{◌≡◌, refl, sym, ◌∙◌}
-use mathlib.Core.Bool.{Bool, true, false}
+use mathlib.Core.Path.{◌≡◌, sym}
+use mathlib.Core.Bool.{true}
+use Rattle.std.specs.Cmp.{both_ways}
 use Prim.Native.Nat.{ℕ, ◌*◌}
 use native.Mathlib.Nat.{le_of_eq}
 use native.Mathlib.Omega.{arith}
@@ -23,9 +24,4 @@ wider l m i x p h e =
     le-leb _ _ wide
 
 pub equal_limits : EqualLimits
-equal_limits l m i x r p = go (passes l i x) (passes m i x) refl refl
-  where
-    go : (a b : Bool) → passes l i x ≡ a → passes m i x ≡ b → passes l i x ≡ passes m i x
-    go true b e f = e ∙ sym (wider l m i x r.is_fraction (le_of_eq r.same) e)
-    go false true e f = wider m l i x p (le_of_eq (sym r.same)) f ∙ sym f
-    go false false e f = e ∙ sym f
+equal_limits l m i x r p = both_ways _ _ (wider l m i x r.is_fraction (le_of_eq r.same)) (wider m l i x p (le_of_eq (sym r.same)))

@@ -1,8 +1,8 @@
 -- The code counts the calculator's and the pair's limit in 1/(2×D) percent, the flow sensor's in 1/(100×q), and adds over the
 -- product: each fraction is the definition's.
 -- Assumes nothing.
-use mathlib.Core.Path.{◌≡◌, refl, ap}
-use mathlib.Core.Bool.{Bool, true, false, cond}
+use mathlib.Core.Path.{◌≡◌, ap}
+use Rattle.std.proofs.lemmas.Bool.{cond_both}
 use Prim.Native.Nat.{ℕ, ◌+◌, ◌*◌, ◌<◌, min}
 use native.Mathlib.Nat.{le_of_lt, mul-le-mul}
 use native.Mathlib.Omega.{arith}
@@ -29,11 +29,8 @@ pair f a e = simp e (record { is_fraction = omega arith; same = omega arith })
 -- the smaller of two, by which of them it is
 either : (P : Fraction → Type 0) (x y : Fraction) → (AtMost x y → P x) → (AtMost y x → P y) → P (smaller x y)
 unfolding smaller
-either P x y first second = go (is_at_most x y) refl
-  where
-    go : (b : Bool) → is_at_most x y ≡ b → P (cond b x y)
-    go true e = first (leb-true _ _ e)
-    go false e = second (le_of_lt (leb-false _ _ e))
+either P x y first second =
+    cond_both (is_at_most x y) x y P (λ e. first (leb-true _ _ e)) (λ e. second (le_of_lt (leb-false _ _ e)))
 
 -- the smaller of the sum and the cap, both times 100 × q
 capped : (f : Figures) (p : TestPoint) (n : ℕ) → 0 < p.q → n ≡ min (f.constant * p.q + f.factor * p.qp) (f.cap * p.q) → Represents (n over 100 * p.q) (flow_sensor_limit f p)

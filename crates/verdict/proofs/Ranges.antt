@@ -1,15 +1,14 @@
--- What is left of a test point's and of two values' ranges where no row refuses them.
+-- What is left of a test point's ranges where no row refuses it.
 -- Assumes nothing.
 use mathlib.Core.Path.{◌≡◌}
 use mathlib.Core.Bool.{false}
 use Prim.Native.Nat.{ℕ, ◌*◌, ◌≤◌}
-use lib.Dec.{eqb}
 use borrow.Author.Tests.{ltb-false}
 use Rattle.quantity.specs.Units.{largest_kelvins}
 use Rattle.quantity.proofs.Conditions.{neither, inside}
 use Rattle.quantity.proofs.Rows.{none_applies}
 use Rattle.quantity.specs.declared.units.Difference.{Difference}
-use Rattle.verdict.specs.Rows.{difference_outside, largest_flow, flow_outside, largest_value, value_outside, point_rows, Admitted}
+use Rattle.verdict.specs.Rows.{difference_outside, largest_flow, flow_outside, point_rows, Admitted}
 use Rattle.verdict.specs.declared.point.TestPoint.{TestPoint}
 
 -- where 53 is not given
@@ -48,9 +47,3 @@ ranges p e =
       difference = difference_in_range _ _ n.1.1.1.0;
       flow = flow_in_range _ _ n.1.1.1.1.0;
     }
-
-pub values : (i x : ℕ) → value_outside i x ≡ false → (i ≤ largest_value) × (x ≤ largest_value)
-unfolding value_outside
-values i x e =
-    let s = neither _ _ e in
-    (ltb-false largest_value i (neither (eqb x 0) _ s.0).1, ltb-false largest_value x s.1)

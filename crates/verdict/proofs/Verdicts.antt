@@ -1,31 +1,19 @@
--- What the rows' outcome and a pass tell of each other.
+-- What the rows' answer and what follows it tell of each other.
 -- Assumes nothing.
-use mathlib.Core.Path.{◌≡◌, refl, sym, ◌∙◌, ap}
+use mathlib.Core.Path.{◌≡◌, refl}
 use mathlib.Core.Bool.{Bool, true, false}
-use Prim.Native.Nat.{ℕ}
-use Rattle.quantity.specs.Refusals.{first_of, or_row}
-use Rattle.quantity.proofs.Rows.{accumulated}
-use Rattle.quantity.specs.declared.refusal.Outcome.{Outcome}
-use Rattle.quantity.specs.declared.refusal.Outcome.TheVariants.{Accepted, Refused as RowRefused}
-use Rattle.verdict.specs.Rows.{value_outside, point_rows, verdict_rows}
+use Rattle.std.specs.Prelude.{Result, Ok, Err}
+use Rattle.quantity.specs.declared.refusal.Refusal.{Refusal}
 use Rattle.verdict.specs.Verdict.{answer, refused_or}
-use Rattle.verdict.specs.declared.point.TestPoint.{TestPoint}
 use Rattle.verdict.specs.declared.bench.Verdict.TheVariants.{Pass}
 
--- the last row after the others
-pub last_row : (p : TestPoint) (i x : ℕ) → or_row (first_of (point_rows p)) (value_outside i x) 55 ≡ first_of (verdict_rows p i x)
-last_row p i x = sym (ap (λ (o : Outcome). or_row o (value_outside i x) 55) (accumulated (point_rows p))) ∙ accumulated (verdict_rows p i x)
-
--- where a row more leaves no refusal, there was none before, and the row gives none
-pub both : (o : Outcome) (b : Bool) (n : ℕ) → or_row o b n ≡ Accepted → (o ≡ Accepted) × (b ≡ false)
-unfolding or_row
-both (RowRefused m) b n e = (cc, cc)
-both Accepted true n e = (refl, cc)
-both Accepted false n e = (refl, refl)
-
--- a pass comes only where no row refuses and the comparison holds
-pub only : (o : Outcome) (b : Bool) → refused_or o (answer b) ≡ Pass → (o ≡ Accepted) × (b ≡ true)
+-- an answer comes only where no row refuses, and it is the one that follows
+pub accepted : {A : Type 0} (o : Result Unit Refusal) (a b : A) → refused_or o a ≡ Ok b → (o ≡ Ok tt) × (a ≡ b)
 unfolding refused_or
-only (RowRefused n) b e = (cc, cc)
-only Accepted true e = (refl, refl)
-only Accepted false e = (refl, cc)
+accepted (Err r) a b e = (cc, cc)
+accepted (Ok u) a b e = (refl, cc)
+
+-- a pass only where the comparison holds, too
+pub only : (o : Result Unit Refusal) (b : Bool) → refused_or o (answer b) ≡ Ok Pass → (o ≡ Ok tt) × (b ≡ true)
+only o true e = ((accepted o _ _ e).0, refl)
+only o false e = ((accepted o _ _ e).0, let never = (accepted o _ _ e).1 in cc)

@@ -1,11 +1,12 @@
 -- Document 01's refusals, row "Verdict": "50 part; 51 class not 1..3, whatever the part; 52 stage; 53 Δmin not 1, 2, 3 or D
 -- outside 100×Δmin..18000; 54 qp or q outside 1..10^9; 55 X zero, or I or X above 10^12−1". Document 02, request 4, of the two
 -- operations that the verdict calls: "the first gives 50 to 54, the second 55, also for a zero denominator".
-use Rattle.std.specs.Prelude.{ℕ, ◌-◌, ◌^◌, ◌≡◌, Bool, ◌||◌, List, [], ◌∷◌, ◌++◌, ltb, eqb}
+use Rattle.std.specs.Prelude.{ℕ, ◌-◌, ◌^◌, ◌≡◌, Bool, ◌||◌, List, [], ◌∷◌, ◌++◌, ltb, eqb, Ok}
 use Rattle.quantity.specs.Units.{largest_kelvins, whole_kelvins, is_smaller}
-use Rattle.quantity.specs.Refusals.{Row, row, outside, first_of}
+use Rattle.quantity.specs.Refusals.{row, outside, first_of}
 use Rattle.quantity.specs.declared.fraction.Fraction.{Fraction}
-use Rattle.quantity.specs.declared.refusal.Outcome.TheVariants.{Accepted}
+use Rattle.quantity.specs.declared.refusal.Refusal.TheVariants as R
+use Rattle.quantity.specs.declared.refusal.Row.{Row}
 use Rattle.quantity.specs.declared.units.Difference.{Difference}
 use Rattle.verdict.specs.declared.point.TestPoint.{TestPoint}
 
@@ -30,23 +31,23 @@ value_outside i x = eqb x 0 || ltb largest_value i || ltb largest_value x
 -- what is asked of the test point
 abbrev pub point_rows : TestPoint → List Row
 point_rows p =
-    row 50 (outside p.part 1 4)
-    ∷ row 51 (outside p.class 1 3)
-    ∷ row 52 (outside p.stage 1 2)
-    ∷ row 53 (difference_outside p.delta_min p.difference)
-    ∷ row 54 (flow_outside p.qp p.q)
+    row R.Part (outside p.part 1 4)
+    ∷ row R.Class (outside p.class 1 3)
+    ∷ row R.Stage (outside p.stage 1 2)
+    ∷ row R.TestDifference (difference_outside p.delta_min p.difference)
+    ∷ row R.TestFlow (flow_outside p.qp p.q)
     ∷ []
 
 -- what is asked of the indicated value i and of the conventional true value x
 abbrev pub value_rows : ℕ → ℕ → List Row
-value_rows i x = row 55 (value_outside i x) ∷ []
+value_rows i x = row R.Values (value_outside i x) ∷ []
 
 -- what is asked of them where they are compared with a limit: 55 "also for a zero denominator"
 unfoldable pub incomparable : Fraction → ℕ → ℕ → Bool
 incomparable l i x = value_outside i x || eqb l.denominator 0
 
 abbrev pub comparison_rows : Fraction → ℕ → ℕ → List Row
-comparison_rows l i x = row 55 (incomparable l i x) ∷ []
+comparison_rows l i x = row R.Values (incomparable l i x) ∷ []
 
 -- all six, in the table's order
 abbrev pub verdict_rows : TestPoint → ℕ → ℕ → List Row
@@ -54,4 +55,4 @@ verdict_rows p i x = point_rows p ++ value_rows i x
 
 -- no row refuses the test point: what the theorems suppose of it, and what the code asks before it works out a limit
 abbrev pub Admitted : TestPoint → Type 0
-Admitted p = first_of (point_rows p) ≡ Accepted
+Admitted p = first_of (point_rows p) ≡ Ok tt

@@ -1,8 +1,9 @@
 -- What is proved of the verdict, statement by statement. Each is proved in proofs/ under its name in small letters.
-use Rattle.std.specs.Prelude.{ℕ, ◌+◌, ◌*◌, ◌≤◌, ◌<◌, ◌≡◌, false, ◌↔◌}
+use Rattle.std.specs.Prelude.{ℕ, ◌+◌, ◌*◌, ◌≤◌, ◌<◌, ◌≡◌, false, ◌↔◌, Result, Ok, Err}
 use Rattle.quantity.specs.Divisors.{InLowestTerms}
 use Rattle.quantity.specs.Fractions.{whole, IsFraction, plus, times, AtMost, Same, Represents}
 use Rattle.quantity.specs.declared.fraction.Fraction.{Fraction}
+use Rattle.quantity.specs.declared.refusal.Refusal.{Refusal}
 use Rattle.verdict.specs.Certificate.{error_limit_of, comparison_of}
 use Rattle.verdict.specs.Limit.{hundredths, figures_of, difference_ratio, flow_ratio, flow_sensor_sum, complete_limit, limit_of}
 use Rattle.verdict.specs.Rows.{largest_value, Admitted, incomparable}
@@ -10,9 +11,7 @@ use Rattle.verdict.specs.Verdict.{absolute_error, passes, verdict_of}
 use Rattle.verdict.specs.declared.class.Figures.{Figures}
 use Rattle.verdict.specs.declared.point.TestPoint.{TestPoint}
 use Rattle.verdict.specs.declared.bench.Verdict.{Verdict}
-use Rattle.verdict.specs.declared.bench.Verdict.TheVariants.{Pass, Fail, Refused}
-use Rattle.verdict.specs.declared.limit.ErrorLimit.{ErrorLimit}
-use Rattle.verdict.specs.declared.limit.ErrorLimit.TheVariants.{Percent, Refused as LimitRefused}
+use Rattle.verdict.specs.declared.bench.Verdict.TheVariants.{Pass, Fail}
 
 -- where no row refuses the test point, its limit and a complete instrument's are fractions, their lower numbers above zero
 abbrev pub LimitIsFraction : Type 0
@@ -26,7 +25,7 @@ abbrev pub Widened : Type 0
 Widened =
     (p w : TestPoint) (i x : ℕ) → Admitted w →
     AtMost (limit_of (figures_of p.class) p) (limit_of (figures_of w.class) w) →
-    verdict_of p i x ≡ Pass → verdict_of w i x ≡ Pass
+    verdict_of p i x ≡ Ok Pass → verdict_of w i x ≡ Ok Pass
 
 -- a test point at another stage
 abbrev pub at_stage : ℕ → TestPoint → TestPoint
@@ -43,7 +42,7 @@ at_stage s p =
 
 -- what passes at verification passes in service
 abbrev pub InService : Type 0
-InService = (p : TestPoint) (i x : ℕ) → verdict_of (at_stage 1 p) i x ≡ Pass → verdict_of (at_stage 2 p) i x ≡ Pass
+InService = (p : TestPoint) (i x : ℕ) → verdict_of (at_stage 1 p) i x ≡ Ok Pass → verdict_of (at_stage 2 p) i x ≡ Ok Pass
 
 -- equal limits are passed alike, so a verdict does not depend on how its limit is written as a fraction
 abbrev pub EqualLimits : Type 0
@@ -53,31 +52,31 @@ EqualLimits = (l m : Fraction) (i x : ℕ) → Represents l m → IsFraction m �
 -- lowest terms. There is only one such pair.
 abbrev pub LimitExactly : Type 0
 LimitExactly =
-    (p : TestPoint) (r : Fraction) → (error_limit_of p ≡ Percent r) ↔ (Admitted p × Represents r (limit_of (figures_of p.class) p) × InLowestTerms r)
+    (p : TestPoint) (r : Fraction) → (error_limit_of p ≡ Ok r) ↔ (Admitted p × Represents r (limit_of (figures_of p.class) p) × InLowestTerms r)
 
 -- a limit of whole percent has the denominator 1
 abbrev pub WholePercent : Type 0
 WholePercent =
-    (p : TestPoint) (n : ℕ) → Admitted p → Same (limit_of (figures_of p.class) p) (whole n) → error_limit_of p ≡ Percent (whole n)
+    (p : TestPoint) (n : ℕ) → Admitted p → Same (limit_of (figures_of p.class) p) (whole n) → error_limit_of p ≡ Ok (whole n)
 
 -- no limit is zero percent
 abbrev pub LimitAboveZero : Type 0
-LimitAboveZero = (p : TestPoint) (r : Fraction) → error_limit_of p ≡ Percent r → 0 < r.numerator
+LimitAboveZero = (p : TestPoint) (r : Fraction) → error_limit_of p ≡ Ok r → 0 < r.numerator
 
 -- the comparison with any two numbers passes exactly where 55 is not given and |I−X|×100×denominator ≤ numerator×X
 abbrev pub ComparedExactly : Type 0
 ComparedExactly =
     (l : Fraction) (i x : ℕ) →
-    (comparison_of l i x ≡ Pass) ↔ ((incomparable l i x ≡ false) × (absolute_error i x * 100 * l.denominator ≤ l.numerator * x))
+    (comparison_of l i x ≡ Ok Pass) ↔ ((incomparable l i x ≡ false) × (absolute_error i x * 100 * l.denominator ≤ l.numerator * x))
 
 -- equal limits are compared alike, reduced or not
 abbrev pub EqualComparisons : Type 0
 EqualComparisons = (l m : Fraction) (i x : ℕ) → IsFraction l → IsFraction m → Same l m → comparison_of l i x ≡ comparison_of m i x
 
 -- what the two operations answer together: the comparison with the limit's pair, or the limit's refusal
-abbrev pub compared_with : ErrorLimit → ℕ → ℕ → Verdict
-compared_with (Percent l) i x = comparison_of l i x
-compared_with (LimitRefused n) i x = Refused n
+abbrev pub compared_with : Result Fraction Refusal → ℕ → ℕ → Result Verdict Refusal
+compared_with (Ok l) i x = comparison_of l i x
+compared_with (Err r) i x = Err r
 
 -- "A pass from the pair means what a pass meant before, refusals 50 to 55 included": it is the verdict, whatever the answer
 abbrev pub FromPair : Type 0
@@ -120,7 +119,7 @@ abbrev pub AtMost10 : Type 0
 AtMost10 = (class : ℕ) → 1 ≤ class → class ≤ 3 → (p : TestPoint) → Admitted p → AtMost (complete_limit (figures_of class) p) (whole 10)
 
 -- Document 01, "Edges to try": the verdict for a part, D, qp, q and I, the other inputs being stage 1, class 2, Δmin 3 and X 1000000
-abbrev pub verdict_at : ℕ → ℕ → ℕ → ℕ → ℕ → Verdict
+abbrev pub verdict_at : ℕ → ℕ → ℕ → ℕ → ℕ → Result Verdict Refusal
 verdict_at part d qp q i =
     verdict_of
     (record { part = part; class = 2; stage = 1; delta_min = 3; difference = record { 0 = d }; qp = qp; q = q })
@@ -130,13 +129,13 @@ verdict_at part d qp q i =
 -- the marked (†) lines of the verdict
 pub record VerdictEdges : Type 0 where
   -- "Calculator, Δmin 3, D 300, X 1000000, stage 1: I 1015000 and 985000 pass; 1015001 and 984999 don't."
-  pub calculator_upper : verdict_at 1 300 1 1 1015000 ≡ Pass
-  pub calculator_above : verdict_at 1 300 1 1 1015001 ≡ Fail
-  pub calculator_lower : verdict_at 1 300 1 1 985000 ≡ Pass
-  pub calculator_below : verdict_at 1 300 1 1 984999 ≡ Fail
+  pub calculator_upper : verdict_at 1 300 1 1 1015000 ≡ Ok Pass
+  pub calculator_above : verdict_at 1 300 1 1 1015001 ≡ Ok Fail
+  pub calculator_lower : verdict_at 1 300 1 1 985000 ≡ Ok Pass
+  pub calculator_below : verdict_at 1 300 1 1 984999 ≡ Ok Fail
   -- "Complete, class 2, Δmin 3, D 3000, q = qp, X 1000000: 1034200 passes, 1034201 doesn't."
-  pub complete_upper : verdict_at 4 3000 1 1 1034200 ≡ Pass
-  pub complete_above : verdict_at 4 3000 1 1 1034201 ≡ Fail
+  pub complete_upper : verdict_at 4 3000 1 1 1034200 ≡ Ok Pass
+  pub complete_above : verdict_at 4 3000 1 1 1034201 ≡ Ok Fail
   -- "Flow, class 2, qp 2500, q 10, X 1000000: 1050000 passes, 1050001 doesn't."
-  pub flow_sensor_upper : verdict_at 3 300 2500 10 1050000 ≡ Pass
-  pub flow_sensor_above : verdict_at 3 300 2500 10 1050001 ≡ Fail
+  pub flow_sensor_upper : verdict_at 3 300 2500 10 1050000 ≡ Ok Pass
+  pub flow_sensor_above : verdict_at 3 300 2500 10 1050001 ≡ Ok Fail

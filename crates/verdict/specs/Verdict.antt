@@ -1,15 +1,14 @@
 -- The verdict, document 01, "Error verdict": "It passes exactly when |I−X|×100 ≤ limit×X, in exact arithmetic."
-use Rattle.std.specs.Prelude.{ℕ, ◌-◌, ◌*◌, min, max, Bool, true, false}
+use Rattle.std.specs.Prelude.{ℕ, ◌-◌, ◌*◌, min, max, Bool, true, false, Result, Ok, Err}
 use Rattle.quantity.specs.Fractions.{whole, times, is_at_most}
 use Rattle.quantity.specs.Refusals.{first_of}
-use Rattle.quantity.specs.declared.refusal.Outcome.{Outcome}
-use Rattle.quantity.specs.declared.refusal.Outcome.TheVariants.{Accepted, Refused as RowRefused}
+use Rattle.quantity.specs.declared.refusal.Refusal.{Refusal}
 use Rattle.verdict.specs.Limit.{figures_of, limit_of}
 use Rattle.verdict.specs.Rows.{verdict_rows}
 use Rattle.quantity.specs.declared.fraction.Fraction.{Fraction}
 use Rattle.verdict.specs.declared.point.TestPoint.{TestPoint}
 use Rattle.verdict.specs.declared.bench.Verdict.{Verdict}
-use Rattle.verdict.specs.declared.bench.Verdict.TheVariants.{Pass, Fail, Refused}
+use Rattle.verdict.specs.declared.bench.Verdict.TheVariants.{Pass, Fail}
 
 -- |I−X|
 abbrev pub absolute_error : ℕ → ℕ → ℕ
@@ -24,11 +23,11 @@ abbrev pub answer : Bool → Verdict
 answer true = Pass
 answer false = Fail
 
--- a refusal with its number, and otherwise the answer
-unfoldable pub refused_or : Outcome → Verdict → Verdict
-refused_or (RowRefused n) v = Refused n
-refused_or Accepted v = v
+-- a refusal, and otherwise what an operation answers
+unfoldable pub refused_or : {A : Type 0} → Result Unit Refusal → A → Result A Refusal
+refused_or (Err r) a = Err r
+refused_or (Ok u) a = Ok a
 
 -- the verdict on the indicated value i at a test point, x being the conventional true value
-unfoldable pub verdict_of : TestPoint → ℕ → ℕ → Verdict
+unfoldable pub verdict_of : TestPoint → ℕ → ℕ → Result Verdict Refusal
 verdict_of p i x = refused_or (first_of (verdict_rows p i x)) (answer (passes (limit_of (figures_of p.class) p) i x))

@@ -5,7 +5,7 @@ ghost use Rattle.verdict.specs.Rows.{largest_flow};
 
 use crate::kinds::{Class, Part, Stage};
 use crate::point::{TestPoint, is_difference_outside, is_flow_outside};
-use quantity::Difference;
+use quantity::{Difference, Refusal, first_refusal};
 
 // Only `try_from` makes one.
 #[derive(Clone, Copy)]
@@ -26,22 +26,20 @@ pub(crate) struct AdmittedPoint {
 impl TryFrom<TestPoint> for AdmittedPoint {
     ghost use Rattle.verdict.specs.Inside.Admitted.{Admits};
 
-    type Error = u64;
+    type Error = Refusal;
 
     ghost try_from_gives = { Admits };
 
     // The refusals in the table's order, 50 to 54.
     #[tactic(auto, using(crate::proofs::Ranges::difference_in_range, crate::proofs::Ranges::flow_in_range), unfolding(quantity::specs::Refusals::first_of))]
-    fn try_from(point: TestPoint) -> Result<Self, u64> {
+    fn try_from(point: TestPoint) -> Result<Self, Refusal> {
         let part = Part::try_from(point.part)?;
         let class = Class::try_from(point.class)?;
         let stage = Stage::try_from(point.stage)?;
-        if is_difference_outside(point.delta_min, point.difference) {
-            return Err(53);
-        }
-        if is_flow_outside(point.qp, point.q) {
-            return Err(54);
-        }
+        first_refusal(&[
+            Refusal::TestDifference.when(is_difference_outside(point.delta_min, point.difference)),
+            Refusal::TestFlow.when(is_flow_outside(point.qp, point.q)),
+        ])?;
         Ok(AdmittedPoint {
             part,
             class,

@@ -4,44 +4,48 @@ ghost use Rattle.std.specs.Prelude.{◌≡◌};
 ghost use Rattle.verdict.specs.Certificate.{comparison_of};
 ghost use Rattle.verdict.specs.Verdict.{verdict_of};
 
-use crate::limit::{ErrorLimit, error_limit};
+use crate::limit::error_limit;
 use crate::point::TestPoint;
 use crate::values::Values;
-use quantity::Fraction;
+use quantity::{Fraction, Refusal};
 
 // The answer of the comparison and of the verdict.
-#[derive(Clone, Copy)]
+#[derive(Clone, Copy, Debug, PartialEq, Eq)]
 pub enum Verdict {
     Pass,
     Fail,
-    // the refusal's number
-    Refused(u64),
 }
 
 // Whether the indicated value's error lies within a limit in percent, reduced or not, or 55, "also for a zero denominator".
 #[tactic(auto, unfolding(crate::specs::Certificate::comparison_of, crate::specs::Rows::incomparable, crate::specs::Verdict::refused_or, quantity::specs::Refusals::first_of))]
-pub fn compare_error(limit: Fraction, indicated: u64, conventional_true: u64) -> Verdict
+pub fn compare_error(
+    limit: Fraction,
+    indicated: u64,
+    conventional_true: u64,
+) -> Result<Verdict, Refusal>
     ensures { result ≡ comparison_of limit indicated conventional_true }
 {
     match Values::new(indicated, conventional_true) {
         Some(values) if limit.denominator != 0 => {
             if values.are_within(limit) {
-                Verdict::Pass
+                Ok(Verdict::Pass)
             } else {
-                Verdict::Fail
+                Ok(Verdict::Fail)
             }
         }
-        _ => Verdict::Refused(55),
+        _ => Err(Refusal::Values),
     }
 }
 
 // Whether the indicated value passes at the test point, or the first of the refusals 50 to 55.
-#[tactic(auto, using(crate::proofs::Certificate::of_limit, crate::proofs::Certificate::of_refusal))]
-pub fn error_verdict(point: TestPoint, indicated: u64, conventional_true: u64) -> Verdict
+#[tactic(auto, using(crate::proofs::Certificate::of_limit))]
+pub fn error_verdict(
+    point: TestPoint,
+    indicated: u64,
+    conventional_true: u64,
+) -> Result<Verdict, Refusal>
     ensures { result ≡ verdict_of point indicated conventional_true }
 {
-    match error_limit(point) {
-        ErrorLimit::Percent(limit) => compare_error(limit, indicated, conventional_true),
-        ErrorLimit::Refused(number) => Verdict::Refused(number),
-    }
+    let limit = error_limit(point)?;
+    compare_error(limit, indicated, conventional_true)
 }

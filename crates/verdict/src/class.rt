@@ -10,7 +10,7 @@ use crate::kinds::Class;
 const FIXED_CAP: u64 = 500;
 
 // The three numbers of a flow sensor's limit, constant + factor × qp/q and at most cap, in hundredths of a percent.
-#[derive(Clone, Copy, Debug, PartialEq, Eq)]
+#[derive(Clone, Copy)]
 pub(crate) struct Figures {
     pub(crate) constant: u64,
     pub(crate) factor: u64,

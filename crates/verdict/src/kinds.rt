@@ -1,6 +1,9 @@
 // The kinds that a test point names by number: its part, its class and its stage. Each is read once, and no other number is any.
 ghost use Rattle.std.specs.Prelude.{◌≡◌};
+ghost use Rattle.quantity.specs.declared.refusal.Refusal.TheVariants as R;
 ghost use Rattle.verdict.specs.Inside.Kinds.{part_number, class_number, stage_number, Reads};
+
+use quantity::Refusal;
 
 // What is tested.
 #[derive(Clone, Copy, Debug, PartialEq, Eq)]
@@ -26,53 +29,53 @@ pub(crate) enum Stage {
     InService,
 }
 
-// The part, or 50.
+// The part, or 50. Each kind has an impl of its own: they differ in the list of variants, so a generic one would be no plainer.
 impl TryFrom<u64> for Part {
-    type Error = u64;
+    type Error = Refusal;
 
-    ghost try_from_gives = { Reads part_number 4 50 };
+    ghost try_from_gives = { Reads part_number 4 R.Part };
 
     #[tactic(auto, unfolding(quantity::specs::Refusals::outside))]
-    fn try_from(number: u64) -> Result<Self, u64> {
+    fn try_from(number: u64) -> Result<Self, Refusal> {
         match number {
             1 => Ok(Part::Calculator),
             2 => Ok(Part::SensorPair),
             3 => Ok(Part::FlowSensor),
             4 => Ok(Part::Complete),
-            _ => Err(50),
+            _ => Err(Refusal::Part),
         }
     }
 }
 
 // The class, or 51.
 impl TryFrom<u64> for Class {
-    type Error = u64;
+    type Error = Refusal;
 
-    ghost try_from_gives = { Reads class_number 3 51 };
+    ghost try_from_gives = { Reads class_number 3 R.Class };
 
     #[tactic(auto, unfolding(quantity::specs::Refusals::outside))]
-    fn try_from(number: u64) -> Result<Self, u64> {
+    fn try_from(number: u64) -> Result<Self, Refusal> {
         match number {
             1 => Ok(Class::One),
             2 => Ok(Class::Two),
             3 => Ok(Class::Three),
-            _ => Err(51),
+            _ => Err(Refusal::Class),
         }
     }
 }
 
 // The stage, or 52.
 impl TryFrom<u64> for Stage {
-    type Error = u64;
+    type Error = Refusal;
 
-    ghost try_from_gives = { Reads stage_number 2 52 };
+    ghost try_from_gives = { Reads stage_number 2 R.Stage };
 
     #[tactic(auto, unfolding(quantity::specs::Refusals::outside))]
-    fn try_from(number: u64) -> Result<Self, u64> {
+    fn try_from(number: u64) -> Result<Self, Refusal> {
         match number {
             1 => Ok(Stage::Verification),
             2 => Ok(Stage::InService),
-            _ => Err(52),
+            _ => Err(Refusal::Stage),
         }
     }
 }

@@ -11,5 +11,5 @@ mod point;
 mod values;
 
 pub use bench::{Verdict, compare_error, error_verdict};
-pub use limit::{ErrorLimit, error_limit};
+pub use limit::error_limit;
 pub use point::TestPoint;

@@ -10,16 +10,7 @@ ghost use Rattle.verdict.specs.Inside.Kinds.{class_number};
 use crate::admitted::AdmittedPoint;
 use crate::kinds::{Part, Stage};
 use crate::point::TestPoint;
-use quantity::Fraction;
-
-// The answer on a test point's limit.
-#[derive(Clone, Copy)]
-pub enum ErrorLimit {
-    // in percent and in lowest terms
-    Percent(Fraction),
-    // the refusal's number
-    Refused(u64),
-}
+use quantity::{Fraction, Refusal};
 
 impl AdmittedPoint {
     // The flow sensor's limit at verification, times 100 × q: what the cap leaves of constant + factor × qp/q.
@@ -68,7 +59,7 @@ impl AdmittedPoint {
     }
 
     // The limit at the point's stage: in service, twice the one at verification.
-    #[tactic(auto, using(crate::proofs::Certificate::at_verification, crate::proofs::Certificate::in_service))]
+    #[tactic(auto, using(crate::proofs::Certificate::at_verification, crate::proofs::Certificate::twice_in_service))]
     fn limit(self) -> Fraction
         ensures { Represents result (limit_of (figures_of (class_number self.class)) (point_of self)) }
     {
@@ -84,12 +75,10 @@ impl AdmittedPoint {
 }
 
 // The limit of a test point, or the first of the refusals 50 to 54.
-#[tactic(auto, using(crate::proofs::Certificate::printed), unfolding(crate::specs::Certificate::error_limit_of, crate::specs::Certificate::refused_or_limit))]
-pub fn error_limit(point: TestPoint) -> ErrorLimit
+#[tactic(auto, using(crate::proofs::Certificate::printed), unfolding(crate::specs::Certificate::error_limit_of, crate::specs::Verdict::refused_or))]
+pub fn error_limit(point: TestPoint) -> Result<Fraction, Refusal>
     ensures { result ≡ error_limit_of point }
 {
-    match AdmittedPoint::try_from(point) {
-        Ok(admitted) => ErrorLimit::Percent(admitted.limit().reduced()),
-        Err(number) => ErrorLimit::Refused(number),
-    }
+    let admitted = AdmittedPoint::try_from(point)?;
+    Ok(admitted.limit().reduced())
 }

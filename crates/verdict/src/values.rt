@@ -7,7 +7,7 @@ use quantity::{Fraction, product_less};
 // The largest value that 55 lets pass.
 const LARGEST_VALUE: u64 = 999999999999;
 
-// Only `new` makes one.
+// Only `new` makes one. The public operations take two numbers: what crosses a crate's border is total, a rule of the project.
 #[derive(Clone, Copy)]
 pub(crate) struct Values {
     pub(crate) indicated: u64,

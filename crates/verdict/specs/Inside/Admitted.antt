@@ -1,7 +1,7 @@
 -- What a test point is once its kinds are read and no row refuses it.
-use Rattle.std.specs.Prelude.{◌≡◌, ℕ, Result, MatchResult}
+use Rattle.std.specs.Prelude.{◌≡◌, Result, Err, MatchResult}
 use Rattle.quantity.specs.Refusals.{first_of}
-use Rattle.quantity.specs.declared.refusal.Outcome.TheVariants.{Refused}
+use Rattle.quantity.specs.declared.refusal.Refusal.{Refusal}
 use Rattle.verdict.specs.Rows.{point_rows, Admitted}
 use Rattle.verdict.specs.Inside.Kinds.{part_number, class_number, stage_number}
 use Rattle.verdict.specs.declared.admitted.AdmittedPoint.{AdmittedPoint}
@@ -21,5 +21,5 @@ point_of a =
     }
 
 -- a test point that no row refuses is admitted as it is, and of any other the first row's refusal is the error
-abbrev pub Admits : TestPoint → Result AdmittedPoint ℕ → Type 0
-Admits p r = MatchResult r (λ a. (point_of a ≡ p) × Admitted p) (λ n. first_of (point_rows p) ≡ Refused n)
+abbrev pub Admits : TestPoint → Result AdmittedPoint Refusal → Type 0
+Admits p r = MatchResult r (λ a. (point_of a ≡ p) × Admitted p) (λ e. first_of (point_rows p) ≡ Err e)

@@ -1,4 +1,4 @@
--- What the code asks of a class's figures, so that its numbers fit 64 bits.
+-- How large the figures of a class may be, so that the numbers of the code fit 64 bits.
 use Rattle.std.specs.Prelude.{ℕ, ◌≤◌}
 use Rattle.verdict.specs.declared.class.Figures.{Figures}
 

@@ -1,6 +1,7 @@
 -- The numbers by which a test point names its kinds, and how each is read.
 use Rattle.std.specs.Prelude.{◌≡◌, ℕ, true, false, Result, MatchResult}
 use Rattle.quantity.specs.Refusals.{outside}
+use Rattle.quantity.specs.declared.refusal.Refusal.{Refusal}
 use Rattle.verdict.specs.declared.kinds.Part.{Part}
 use Rattle.verdict.specs.declared.kinds.Part.TheVariants.{Calculator, SensorPair, FlowSensor, Complete}
 use Rattle.verdict.specs.declared.kinds.Class.{Class}
@@ -25,7 +26,7 @@ abbrev pub stage_number : Stage → ℕ
 stage_number Verification = 1
 stage_number InService = 2
 
--- a number of 1..last is the kind's that it names, and any other is the refusal
-abbrev pub Reads : {K : Type 0} → (K → ℕ) → ℕ → ℕ → ℕ → Result K ℕ → Type 0
+-- a number of 1..last is the kind's that it names, and any other is refused
+abbrev pub Reads : {K : Type 0} → (K → ℕ) → ℕ → Refusal → ℕ → Result K Refusal → Type 0
 Reads number last refusal n r =
     MatchResult r (λ k. (number k ≡ n) × (outside n 1 last ≡ false)) (λ e. (e ≡ refusal) × (outside n 1 last ≡ true))
