@@ -90,12 +90,15 @@ point share off h = record { from = omega arith; to = omega arith }
 below_end : (share : ℕ) → BetweenEnds share → share ≤ line_at last_hundredth
 below_end share h = omega (arith, h.1, curve_above_line last_hundredth (omega arith))
 
--- the amount by which the curve lies above the line at a t up to the line's point can be taken off the share and leaves W(0) at least
-pub fits : (share t : ℕ) → BetweenEnds share → t ≤ line_point share → (t ≤ last_hundredth) × (W 0 + above_line t ≤ share)
+-- the line's point is a temperature of the range
+pub line_point_in_range : (share : ℕ) → BetweenEnds share → line_point share ≤ last_hundredth
 unfolding line_point
-fits share t h l =
-    let end : t ≤ last_hundredth = omega (arith, below_end share h, l) in
-    (end, omega (arith, h.0, l, below_line t end))
+line_point_in_range share h = omega (arith, below_end share h)
+
+-- the amount by which the curve lies above the line at a t up to it can be taken off the share and leaves W(0) at least
+pub fits : (share t : ℕ) → BetweenEnds share → t ≤ line_point share → W 0 + above_line t ≤ share
+unfolding line_point
+fits share t h l = omega (arith, below_line t (omega (arith, line_point_in_range share h)))
 
 module _ (share : ℕ) (h : BetweenEnds share) where
   abbrev t : ℕ
@@ -128,14 +131,14 @@ module _ (share : ℕ) (h : BetweenEnds share) where
   f = next_from share l
 
   first : Point share (above_line l) f
-  first = point share (above_line l) (fits share l h (le_refl _)).1
+  first = point share (above_line l) (fits share l h (le_refl _))
 
   pub first_is_below : f ≤ l
   first_is_below = first_below share t by_line_lem l line f first
 
   start : Point share (above_line f) (start_of share)
   unfolding start_of
-  start = point share (above_line f) (fits share f h first_is_below).1
+  start = point share (above_line f) (fits share f h first_is_below)
 
   pub line_bounds : (t ≤ l) × (l ≤ t + 124)
   line_bounds = (line_from share t by_line_lem l line, line_to share t by_line_lem l line)

@@ -6,7 +6,7 @@ ghost use Rattle.quantity.specs.Refusals.{first_of};
 ghost use Rattle.quantity.specs.declared.range.Position.TheVariants as P;
 
 use crate::curve::share_at;
-use crate::search::largest_at_most;
+use crate::search::Share;
 use crate::sensor::{Sensor, SensorField};
 use quantity::{End, LAST_HUNDREDTH, Outcome, Position, Temperature};
 
@@ -44,8 +44,10 @@ fn of_resistance(n: u64, reading: u64) -> Measured
     if quantity::product_less(n, share_at(LAST_HUNDREDTH), reading, 10000000000) {
         return Measured::Outside(End::High);
     }
-    let share = reading * 10000000000 / n;
-    Measured::At(Temperature(largest_at_most(share)))
+    let share = Share {
+        value: reading * 10000000000 / n,
+    };
+    Measured::At(Temperature(share.largest_at_most()))
 }
 
 impl Measured {

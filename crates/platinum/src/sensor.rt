@@ -3,7 +3,7 @@ ghost use Rattle.std.specs.Prelude.{◌≡◌};
 ghost use Rattle.platinum.specs.Sensor.{sensor_of, resistance_of};
 
 // A sensor kind, by its nominal resistance.
-#[derive(Clone, Copy)]
+#[derive(Clone, Copy, Debug, PartialEq, Eq)]
 pub enum Sensor {
     Pt100,
     Pt500,
@@ -11,7 +11,7 @@ pub enum Sensor {
 }
 
 // What a card's sensor field names.
-#[derive(Clone, Copy)]
+#[derive(Clone, Copy, Debug, PartialEq, Eq)]
 pub enum SensorField {
     Kind(Sensor),
     Unknown,
@@ -30,16 +30,12 @@ impl Sensor {
     pub fn from_field(field: u64) -> SensorField
         ensures { result ≡ sensor_of field }
     {
-        if field == Sensor::OHM_PT100 {
-            return SensorField::Kind(Sensor::Pt100);
+        match field {
+            Sensor::OHM_PT100 => SensorField::Kind(Sensor::Pt100),
+            Sensor::OHM_PT500 => SensorField::Kind(Sensor::Pt500),
+            Sensor::OHM_PT1000 => SensorField::Kind(Sensor::Pt1000),
+            _ => SensorField::Unknown,
         }
-        if field == Sensor::OHM_PT500 {
-            return SensorField::Kind(Sensor::Pt500);
-        }
-        if field == Sensor::OHM_PT1000 {
-            return SensorField::Kind(Sensor::Pt1000);
-        }
-        SensorField::Unknown
     }
 
     // The resistance at 0 °C, in ohm.
