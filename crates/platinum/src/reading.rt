@@ -1,5 +1,6 @@
 // The temperature operation (document 01, "Temperature" and the row "Temperature alone").
-ghost use Rattle.std.specs.Prelude.{◌≡◌, ◌<◌, ◌≤◌};
+ghost use Rattle.std.specs.Prelude.{◌≡◌};
+ghost use Rattle.platinum.specs.Sensor.{resistance_of};
 ghost use Rattle.platinum.specs.Temperature.{of_resistance, temperature_of};
 ghost use Rattle.platinum.specs.Refusal.{alone_rows, end_rows, refusal_of};
 ghost use Rattle.quantity.specs.Refusals.{first_of};
@@ -20,24 +21,24 @@ pub enum Measured {
 
 // The temperature of a reading in 0.0001 ohm, of a sensor that a card's field names. Any numbers are answered; by itself the refusal is that
 // of the first row of "Temperature alone" that applies.
-#[tactic(auto, using(crate::proofs::Answer::by_itself, crate::proofs::Resistances::resistance_range), unfolding(crate::specs::Temperature::temperature_of))]
+#[tactic(auto, using(crate::proofs::Answer::by_itself), unfolding(crate::specs::Temperature::temperature_of))]
 pub fn temperature(field: u64, reading: u64) -> Measured
     ensures value { result ≡ temperature_of field reading }
     ensures refusal { refusal_of P.Alone result ≡ first_of (alone_rows field reading) }
 {
     let kind = Sensor::from_field(field);
     match kind {
-        SensorField::Kind(sensor) => of_resistance(sensor.resistance(), reading),
+        SensorField::Kind(sensor) => of_sensor(sensor, reading),
         SensorField::Unknown => Measured::NoSensor,
     }
 }
 
 // A reading times 10^10 can pass 64 bits, so the two ends are compared as full products.
-#[tactic(auto, using(crate::proofs::Near::between_ends), unfolding(crate::specs::Temperature::of_resistance, crate::specs::Temperature::W))]
-fn of_resistance(n: u64, reading: u64) -> Measured
-    requires { (0 < n) × (n ≤ 1000) }
-    ensures { result ≡ of_resistance n reading }
+#[tactic(auto, using(crate::proofs::Near::between_ends, crate::proofs::Near::found, crate::proofs::Resistances::resistance_range), unfolding(crate::specs::Temperature::of_resistance, crate::specs::Temperature::W))]
+fn of_sensor(sensor: Sensor, reading: u64) -> Measured
+    ensures { result ≡ of_resistance (resistance_of sensor) reading }
 {
+    let n = sensor.resistance();
     if quantity::product_less(reading, 10000000000, n, share_at(0)) {
         return Measured::Outside(End::Low);
     }
