@@ -46,8 +46,8 @@ unique n r s t h g = le_antisymm (g.largest_one s h.in_range h.reached) (h.large
 -- what an answer `At t` says, by the two tests of `of_resistance`
 by_tests : (n r : ℕ) (t : Temperature) (low high : Bool) → ltb (scaled r) (n * W 0) ≡ low → ltb (n * W last_hundredth) (scaled r) ≡ high →
     cond low (Outside Low) (cond high (Outside High) (At (record { 0 = largest (test n r) last_hundredth }))) ≡ At t → HasTemperature n r × IsTemperature n r t.0
-by_tests n r t true high p q e = let z : ◌≡◌ {A = ℕ} 0 1 = cc in absurd (omega arith)
-by_tests n r t false true p q e = let z : ◌≡◌ {A = ℕ} 0 1 = cc in absurd (omega arith)
+by_tests n r t true high p q e = cc
+by_tests n r t false true p q e = cc
 by_tests n r t false false p q e =
     let from = ltb-false (scaled r) (n * W 0) p in
     let same : ◌≡◌ {A = Temperature} (record { 0 = largest (test n r) last_hundredth }) t = cc in
@@ -76,7 +76,7 @@ no_smaller n r r' s t h f g = g.largest_one s f.in_range (omega (arith, f.reache
 -- the same of the operation: of a card's sensor field
 by_kind : (k : SensorField) (r : ℕ) (t : Temperature) → of_kind k r ≡ At t → (s : Sensor) × (k ≡ Kind s) × IsTemperature (resistance_of s) r t.0
 by_kind (Kind s) r t e = (s, refl, (answered (resistance_of s) r t e).1)
-by_kind Unknown r t e = let z : ◌≡◌ {A = ℕ} 0 1 = cc in absurd (omega arith)
+by_kind Unknown r t e = cc
 
 pub within_range : WithinRange
 unfolding temperature_of

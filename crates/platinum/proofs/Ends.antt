@@ -20,7 +20,6 @@ use Rattle.platinum.specs.Sensor.{resistance_of}
 use Rattle.platinum.specs.Temperature.{W, scaled, of_resistance, of_kind, temperature_of, HasTemperature}
 use Rattle.platinum.specs.Refusal.{refusal_of, end_rows}
 use Rattle.platinum.specs.Theorems.{SaysEnd, AnswerSaysEnd, RowsSayEnd}
-use Rattle.platinum.specs.declared.sensor.Sensor.{Sensor}
 use Rattle.platinum.specs.declared.sensor.SensorField.{SensorField}
 use Rattle.platinum.specs.declared.sensor.SensorField.TheVariants.{Kind}
 use Rattle.platinum.specs.declared.reading.Measured.{Measured}
@@ -44,17 +43,13 @@ apart n = mul-le-mul_left n (grows_or_stays 0 last_hundredth (omega arith) (omeg
 
 -- no number is both ends'
 other_end : (p : Position) → Refused (end_number p Low) ≡ Refused (end_number p High) → ⊥
-other_end p h =
-    let same : end_number p Low ≡ end_number p High = cc in
-    let z : ◌≡◌ {A = End} Low High = tells_end p p Low High same in
-    let y : ◌≡◌ {A = ℕ} 0 1 = cc in
-    omega arith
+other_end p h = let z : ◌≡◌ {A = End} Low High = tells_end p p Low High cc in cc
 
 module _ (p : Position) (n r : ℕ) where
   says_none : HasTemperature n r → SaysEnd p n r Accepted
   says_none h = record {
-    high = (λ e. absurd (let z : ◌≡◌ {A = ℕ} 0 1 = cc in omega arith), λ g. absurd (omega (arith, h.to)));
-    low = (λ e. absurd (let z : ◌≡◌ {A = ℕ} 0 1 = cc in omega arith), λ g. absurd (omega (arith, h.from)));
+    high = (λ e. cc, λ g. absurd (omega (arith, h.to)));
+    low = (λ e. cc, λ g. absurd (omega (arith, h.from)));
     none = (λ e. h, λ g. refl);
   }
 
@@ -62,14 +57,14 @@ module _ (p : Position) (n r : ℕ) where
   says_low h = record {
     high = (λ e. absurd (other_end p e), λ g. absurd (omega (arith, apart n)));
     low = (λ e. h, λ g. refl);
-    none = (λ e. absurd (let z : ◌≡◌ {A = ℕ} 0 1 = cc in omega arith), λ g. absurd (omega (arith, g.from)));
+    none = (λ e. cc, λ g. absurd (omega (arith, g.from)));
   }
 
   says_high : n * W last_hundredth < scaled r → SaysEnd p n r (Refused (end_number p High))
   says_high h = record {
     high = (λ e. h, λ g. refl);
     low = (λ e. absurd (other_end p (sym e)), λ g. absurd (omega (arith, apart n)));
-    none = (λ e. absurd (let z : ◌≡◌ {A = ℕ} 0 1 = cc in omega arith), λ g. absurd (omega (arith, g.to)));
+    none = (λ e. cc, λ g. absurd (omega (arith, g.to)));
   }
 
   -- by the two tests of `of_resistance`
@@ -90,14 +85,10 @@ unfolding temperature_of
 answer_says_end p field r s e =
     subst (λ (k : SensorField). SaysEnd p (resistance_of s) r (refusal_of p (of_kind k r))) (sym e) (of_resistance_lem p (resistance_of s) r)
 
--- of a known sensor the rows give the number of the answer
-rows_of_kind : (p : Position) (s : Sensor) (r : ℕ) → refusal_of p (of_kind (Kind s) r) ≡ first_of (end_rows p (of_kind (Kind s) r))
-unfolding first_of
-rows_of_kind p s r = by_rows p (Kind s) r
-
+-- of a known sensor the rows give the number of the answer (`by_rows`)
 pub rows_say_end : RowsSayEnd
-unfolding temperature_of
+unfolding temperature_of first_of
 rows_say_end p field r s e =
     let n = resistance_of s in
     subst (λ (k : SensorField). SaysEnd p n r (first_of (end_rows p (of_kind k r)))) (sym e)
-    (subst (SaysEnd p n r) (rows_of_kind p s r) (of_resistance_lem p n r))
+    (subst (SaysEnd p n r) (by_rows p (Kind s) r) (of_resistance_lem p n r))

@@ -1,9 +1,8 @@
 -- W grows from 0 to 18000.
 -- Assumes nothing.
-use mathlib.Core.Path.{◌≡◌, ap, subst}
-use mathlib.Core.Logic.{⊎_elim}
+use mathlib.Core.Path.{◌≡◌, subst}
 use Prim.Native.Nat.{ℕ, suc, ◌+◌, ◌*◌, ◌≤◌, ◌<◌}
-use native.Mathlib.Nat.{mul-le-mul_left, le_dest, le_of_eq, le_of_lt, eq-or-lt_of_le}
+use native.Mathlib.Nat.{mul-le-mul_left, le_dest}
 use native.Mathlib.Omega.{arith}
 use Rattle.quantity.specs.Units.{last_hundredth}
 use Rattle.platinum.specs.Temperature.{W}
@@ -29,4 +28,4 @@ grows a b h l =
     subst (λ (t : ℕ). W a < W t) e (between a d.0 (omega arith))
 
 pub grows_or_stays : (a b : ℕ) → a ≤ b → b ≤ last_hundredth → W a ≤ W b
-grows_or_stays a b h l = ⊎_elim (λ (e : a ≡ b). le_of_eq (ap W e)) (λ (g : a < b). le_of_lt (grows a b g l)) (eq-or-lt_of_le h)
+grows_or_stays a b h l = grind (arith, grows a b)

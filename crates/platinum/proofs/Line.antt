@@ -1,12 +1,9 @@
 -- The straight line through both ends of the curve, and how much the curve lies above it.
 -- Assumes nothing.
-use mathlib.Core.Path.{◌≡◌, refl, ap}
-use mathlib.Core.Bool.{Bool, true, false}
+use mathlib.Core.Path.{◌≡◌, ap}
 use Prim.Native.Nat.{ℕ, ◌+◌, ◌-◌, ◌*◌, ◌≤◌}
 use native.Mathlib.Nat.{mul-le-mul_left, le_dest}
 use native.Mathlib.Omega.{arith}
-use lib.Dec.{leb}
-use borrow.Author.Tests.{leb-true, leb-false}
 use Rattle.quantity.specs.Units.{last_hundredth}
 use Rattle.platinum.specs.Temperature.{W}
 use Rattle.platinum.specs.Line.{slope, above_line}
@@ -62,16 +59,8 @@ module _ (a b : ℕ) (h : a ≤ b) (l : b ≤ last_hundredth) where
 
 -- at two points that lie near each other it is nearly the same
 pub differs_little : (a b k : ℕ) → a ≤ last_hundredth → b ≤ last_hundredth → a ≤ b + k → b ≤ a + k → above_line a ≤ above_line b + most_change * k
-differs_little a b k h l f g = go (leb a b) refl
-  where
-    go : (c : Bool) → leb a b ≡ c → above_line a ≤ above_line b + most_change * k
-    go true e = let n = leb-true a b e in omega (arith, falls_little a b n l)
-    go false e = let n = leb-false a b e in omega (arith, rises_little b a (omega (arith, n)) h)
+differs_little a b k h l f g = grind (arith, falls_little a b, rises_little b a)
 
 -- it is most in the middle
 pub most : (t : ℕ) → t ≤ last_hundredth → above_line t ≤ above_line 9000
-most t l = go (leb t 9000) refl
-  where
-    go : (b : Bool) → leb t 9000 ≡ b → above_line t ≤ above_line 9000
-    go true e = let h = leb-true t 9000 e in rises t 9000 h (omega arith) (omega (arith, h))
-    go false e = let h = leb-false t 9000 e in falls 9000 t (omega (arith, h)) l (omega (arith, h))
+most t l = grind (arith, rises t 9000, falls 9000 t)

@@ -5,6 +5,7 @@ use mathlib.Core.Bool.{false}
 use Prim.Native.Nat.{ℕ, suc, ◌+◌, ◌*◌, ◌≤◌, ◌<◌}
 use native.Mathlib.Nat.{le-div_iff_mul-le, div-le_of_le-mul}
 use native.Mathlib.Omega.{arith}
+use Rattle.std.proofs.lemmas.Nat.{le-div}
 use lib.Dec.{ltb}
 use Rattle.quantity.specs.Units.{last_hundredth}
 use Rattle.quantity.specs.declared.units.Temperature.{Temperature}
@@ -13,7 +14,7 @@ use Rattle.platinum.specs.Line.{share_of, BetweenEnds, line_point, start_of}
 use Rattle.platinum.specs.Theorems.{LinePointNear, StartNear, StartAtMostOneAbove}
 use Rattle.platinum.specs.declared.reading.Measured.TheVariants.{At}
 use Rattle.platinum.proofs.Answer.{answered, unique}
-use Rattle.platinum.proofs.Shares.{answer_of, answer_bounded, answer_reached, answer_largest, divided, by_division}
+use Rattle.platinum.proofs.Shares.{answer_of, answer_bounded, answer_reached, answer_largest, by_division}
 use Rattle.platinum.proofs.Start.{line_bounds, start_bounds}
 
 module _ (n r : ℕ) (p : 0 < n) where
@@ -21,14 +22,14 @@ module _ (n r : ℕ) (p : 0 < n) where
   share = share_of n r
 
   pub between_ends : HasTemperature n r → BetweenEnds share
-  between_ends h = (divided n (W 0) (scaled r) p h.from, div-le_of_le-mul n h.to)
+  between_ends h = (le-div (W 0) (scaled r) n p (omega (arith, h.from)), div-le_of_le-mul n h.to)
 
   -- the temperature of the reading's share is that of the reading
   is_answer : HasTemperature n r → IsTemperature n r (answer_of share)
   is_answer h = record {
     in_range = answer_bounded share;
     reached = omega (arith, (le-div_iff_mul-le {k = n} {x = W (answer_of share)} {y = scaled r} p).0 (answer_reached share (between_ends h).0));
-    largest_one = λ s l e. answer_largest share s l (divided n (W s) (scaled r) p e);
+    largest_one = λ s l e. answer_largest share s l (le-div (W s) (scaled r) n p (omega (arith, e)));
   }
 
   -- so that what holds of the share's temperature holds of every answer

@@ -1,12 +1,12 @@
 -- The largest temperature whose share of the curve is at most a given one.
 -- Assumes nothing.
-use mathlib.Core.Path.{◌≡◌, refl, ap, fun_ext}
-use mathlib.Core.Bool.{Bool, true, false}
+use mathlib.Core.Path.{◌≡◌, ap, fun_ext}
+use mathlib.Core.Bool.{Bool}
 use Prim.Native.Nat.{ℕ, ◌*◌, ◌/◌, ◌≤◌, ◌<◌}
 use native.Mathlib.Nat.{le-div_iff_mul-le, div-lt_iff_lt-mul}
 use native.Mathlib.Omega.{arith}
 use lib.Dec.{leb, lit≤}
-use borrow.Author.Tests.{le-leb, leb-true, leb-false}
+use borrow.Author.Tests.{le-leb, leb-true}
 use Rattle.quantity.proofs.Comparing.{same_at_most}
 use Rattle.quantity.proofs.Largest.{bounded, holds, at_least}
 use Rattle.quantity.specs.Largest.{largest}
@@ -35,18 +35,9 @@ module _ (share : ℕ) where
 
   -- so a t at which the curve lies above the share is above the answer
   pub above_answer : (t : ℕ) → W 0 ≤ share → share < W t → answer_of share < t
-  above_answer t h g = go (leb t (answer_of share)) refl
-    where
-      go : (b : Bool) → leb t (answer_of share) ≡ b → answer_of share < t
-      go true e =
-          absurd (omega (arith, g, answer_reached h, grows_or_stays t (answer_of share) (leb-true t (answer_of share) e) answer_bounded))
-      go false e = leb-false t (answer_of share) e
+  above_answer t h g = grind (arith, answer_reached h, grows_or_stays t (answer_of share), answer_bounded)
 
--- w is at most x / n, rounded down, where n × w is at most x
-pub divided : (n w x : ℕ) → 0 < n → n * w ≤ x → w ≤ x / n
-divided n w x p h = (le-div_iff_mul-le p).1 (omega arith)
-
--- and n × W(t) is at most x exactly where W(t) is at most that quotient
+-- n × W(t) is at most x exactly where W(t) is at most x / n, rounded down
 pub by_division : (n x b : ℕ) → 0 < n → largest (reaches (x / n)) b ≡ largest (λ t. leb (n * W t) x) b
 by_division n x b p =
     ap (λ test. largest test b)

@@ -1,12 +1,8 @@
 -- Where the search begins: at the temperature of the share or one hundredth above it.
 -- Assumes nothing.
-use mathlib.Core.Path.{◌≡◌, refl}
-use mathlib.Core.Bool.{Bool, true, false}
 use Prim.Native.Nat.{ℕ, suc, ◌+◌, ◌-◌, ◌≤◌, ◌<◌}
 use native.Mathlib.Nat.{le_refl}
 use native.Mathlib.Omega.{arith}
-use lib.Dec.{leb}
-use borrow.Author.Tests.{leb-true, leb-false}
 use Rattle.quantity.specs.Units.{last_hundredth}
 use Rattle.platinum.specs.Temperature.{W}
 use Rattle.platinum.specs.Line.{line_at, above_line, BetweenEnds, line_point, next_from, start_of, Within, try_reach}
@@ -51,26 +47,10 @@ module _ (share t : ℕ) (m : ByLine share t) (l : ℕ) (x : Point share 0 l) wh
     first_to = omega (arith, m.to, y.from, differs_little t l 124 m.in_range line_end (omega (arith, line_from)) line_to)
 
     -- Even if the curve lay above the line at t by as much as it does at f, the share would reach it. For where f is no nearer to the middle
-    -- than t, that is no more than at t ..
+    -- than t, that is no more than at t; otherwise, past the middle, f is t itself, since at l the curve lies above the line by no more than at t;
+    -- and before it, f lies above t, and from f to l the curve nears the line by less than the line rises in a hundredth.
     reached : line_at t + above_line f ≤ share
-    reached = go (leb f t) (leb (f + t) last_hundredth) refl refl
-      where
-        go : (b c : Bool) → leb f t ≡ b → leb (f + t) last_hundredth ≡ c → line_at t + above_line f ≤ share
-        go true true e g = omega (arith, m.from, rises f t (leb-true f t e) m.in_range (leb-true (f + t) last_hundredth g))
-        go false false e g =
-            let n = leb-false f t e in
-            omega (arith, m.from, falls t f (omega (arith, n)) first_end (omega (arith, leb-false (f + t) last_hundredth g)))
-        -- .. and otherwise, past the middle, f is t itself, since at l the curve lies above the line by no more than at t;
-        go true false e g =
-            let n = leb-false (f + t) last_hundredth g in
-            let past = falls t l line_from line_end (omega (arith, n, first_below)) in
-            let not_below : t ≤ f = omega (arith, m.from, y.to, past) in
-            omega (arith, m.from, falls t f not_below first_end (omega (arith, n)))
-        -- before it, f lies above t, and from f to l the curve nears the line by less than the line rises in a hundredth
-        go false true e g =
-            let n = leb-false f t e in
-            let k = leb-true (f + t) last_hundredth g in
-            omega (arith, y.from, n, falls_less f l first_below line_end (omega (arith, n, line_to)) (omega (arith, k, line_to)))
+    reached = grind (arith, m.from, y.from, y.to, rises f t, falls t f, falls t l, falls_less f l, line_from, line_to, line_end, first_below, first_end, m.in_range)
 
     -- s is the next from that
     module _ (s : ℕ) (z : Point share (above_line f) s) where
@@ -109,16 +89,8 @@ module _ (share : ℕ) (h : BetweenEnds share) where
     in_range = answer_bounded share;
     to_end = below_end share h;
     from = omega (arith, answer_reached share h.0, curve_above_line t (answer_bounded share));
-    to = go (leb (suc t) last_hundredth) (leb (W (suc t)) share) refl refl;
+    to = grind (arith, below_end share h, answer_bounded share, answer_largest share (suc t), curve_above_line (suc t), differs_little (suc t) t 1);
   }
-    where
-      go : (b c : Bool) → leb (suc t) last_hundredth ≡ b → leb (W (suc t)) share ≡ c → share < line_at (suc t) + above_line t + most_change
-      go true true e f = absurd (omega (arith, answer_largest share (suc t) (leb-true (suc t) last_hundredth e) (leb-true (W (suc t)) share f)))
-      go true false e f =
-          let n = leb-true (suc t) last_hundredth e in
-          let near = differs_little (suc t) t 1 n (answer_bounded share) (omega arith) (omega arith) in
-          omega (arith, leb-false (W (suc t)) share f, curve_above_line (suc t) n, near)
-      go false c e f = omega (arith, leb-false (suc t) last_hundredth e, below_end share h)
 
   abbrev l : ℕ
   l = line_point share
