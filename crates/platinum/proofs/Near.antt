@@ -7,12 +7,12 @@ use native.Mathlib.Nat.{le-div_iff_mul-le, div-le_of_le-mul}
 use native.Mathlib.Omega.{arith}
 use Rattle.std.proofs.lemmas.Nat.{le-div}
 use lib.Dec.{ltb}
+use Rattle.std.specs.Prelude.{Ok}
 use Rattle.quantity.specs.Units.{last_hundredth}
 use Rattle.quantity.specs.declared.units.Temperature.{Temperature}
 use Rattle.platinum.specs.Temperature.{W, scaled, of_resistance, HasTemperature, IsTemperature}
 use Rattle.platinum.specs.Line.{share_of, BetweenEnds, line_point, start_of}
 use Rattle.platinum.specs.Theorems.{LinePointNear, StartNear, StartAtMostOneAbove}
-use Rattle.platinum.specs.declared.reading.Measured.TheVariants.{At}
 use Rattle.platinum.proofs.Answer.{answered, unique}
 use Rattle.platinum.proofs.Shares.{answer_of, answer_bounded, answer_reached, answer_largest, by_division}
 use Rattle.platinum.proofs.Start.{line_bounds, start_bounds}
@@ -33,15 +33,15 @@ module _ (n r : ℕ) (p : 0 < n) where
   }
 
   -- so that what holds of the share's temperature holds of every answer
-  of_answer : (t : Temperature) → of_resistance n r ≡ At t → (P : ℕ → Type 0) → (BetweenEnds share → P (answer_of share)) → P t.0
+  of_answer : (t : Temperature) → of_resistance n r ≡ Ok t → (P : ℕ → Type 0) → (BetweenEnds share → P (answer_of share)) → P t.0
   of_answer t e P f =
       let a = answered n r t e in
       subst P (unique n r _ _ (is_answer a.0) a.1) (f (between_ends a.0))
 
 -- and that is what is answered, past the two tests of `of_resistance`
-pub found : (n r x : ℕ) → 0 < n → ltb (scaled r) (n * W 0) ≡ false → ltb (n * W last_hundredth) (scaled r) ≡ false → x ≡ answer_of (share_of n r) → At (record { 0 = x }) ≡ of_resistance n r
+pub found : (n r x : ℕ) → 0 < n → ltb (scaled r) (n * W 0) ≡ false → ltb (n * W last_hundredth) (scaled r) ≡ false → x ≡ answer_of (share_of n r) → Ok (record { 0 = x }) ≡ of_resistance n r
 unfolding of_resistance
-found n r x p low high e = simp (low, high) (ap (λ (t : ℕ). At (record { 0 = t })) (e ∙ by_division n (scaled r) last_hundredth p))
+found n r x p low high e = simp (low, high) (ap (λ (t : ℕ). Ok (record { 0 = t })) (e ∙ by_division n (scaled r) last_hundredth p))
 
 pub line_point_near : LinePointNear
 line_point_near n r t p e =

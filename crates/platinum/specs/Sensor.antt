@@ -1,9 +1,9 @@
 -- Sensor kinds, document 01, "Temperature": "Each sensor kind has its resistance at 0 °C: 100, 500 or 1000 ohm; call it n."
-use Rattle.std.specs.Prelude.{ℕ, Bool, true, false, cond, eqb}
+use Rattle.std.specs.Prelude.{ℕ, Bool, true, false, cond, eqb, Result, Ok, Err}
 use Rattle.platinum.specs.declared.sensor.Sensor.{Sensor}
 use Rattle.platinum.specs.declared.sensor.Sensor.TheVariants.{Pt100, Pt500, Pt1000}
-use Rattle.platinum.specs.declared.sensor.SensorField.{SensorField}
-use Rattle.platinum.specs.declared.sensor.SensorField.TheVariants.{Kind, Unknown}
+use Rattle.platinum.specs.declared.reading.Unmeasured.{Unmeasured}
+use Rattle.platinum.specs.declared.reading.Unmeasured.TheVariants.{NoSensor}
 
 -- n, in ohm
 unfoldable pub resistance_of : Sensor → ℕ
@@ -12,13 +12,13 @@ resistance_of Pt500 = 500
 resistance_of Pt1000 = 1000
 
 -- the kind that a card's sensor field names, "sensor not 100, 500 or 1000" being unknown
-unfoldable pub sensor_of : ℕ → SensorField
+unfoldable pub sensor_of : ℕ → Result Sensor Unmeasured
 sensor_of field =
-    cond (eqb field 100) (Kind Pt100)
-    (cond (eqb field 500) (Kind Pt500)
-    (cond (eqb field 1000) (Kind Pt1000)
-    Unknown))
+    cond (eqb field 100) (Ok Pt100)
+    (cond (eqb field 500) (Ok Pt500)
+    (cond (eqb field 1000) (Ok Pt1000)
+    (Err NoSensor)))
 
-abbrev pub is_unknown : SensorField → Bool
-is_unknown (Kind s) = false
-is_unknown Unknown = true
+abbrev pub is_unknown : Result Sensor Unmeasured → Bool
+is_unknown (Ok s) = false
+is_unknown (Err e) = true

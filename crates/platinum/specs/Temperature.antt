@@ -1,14 +1,14 @@
 -- The temperature of a reading, document 01, "Temperature". A reading r is in 0.0001 ohm, n is a sensor's resistance at 0 °C in ohm,
 -- t counts hundredths of °C.
-use Rattle.std.specs.Prelude.{ℕ, ◌+◌, ◌-◌, ◌*◌, ◌≤◌, cond, leb, ltb}
+use Rattle.std.specs.Prelude.{ℕ, ◌+◌, ◌-◌, ◌*◌, ◌≤◌, cond, leb, ltb, Result, Ok, Err}
 use Rattle.quantity.specs.Largest.{largest}
 use Rattle.quantity.specs.Units.{last_hundredth}
+use Rattle.quantity.specs.declared.units.Temperature.{Temperature}
 use Rattle.quantity.specs.declared.range.End.TheVariants.{Low, High}
 use Rattle.platinum.specs.Sensor.{resistance_of, sensor_of}
-use Rattle.platinum.specs.declared.sensor.SensorField.{SensorField}
-use Rattle.platinum.specs.declared.sensor.SensorField.TheVariants.{Kind, Unknown}
-use Rattle.platinum.specs.declared.reading.Measured.{Measured}
-use Rattle.platinum.specs.declared.reading.Measured.TheVariants.{At, Outside, NoSensor}
+use Rattle.platinum.specs.declared.sensor.Sensor.{Sensor}
+use Rattle.platinum.specs.declared.reading.Unmeasured.{Unmeasured}
+use Rattle.platinum.specs.declared.reading.Unmeasured.TheVariants.{Outside}
 
 -- "W(t) = 100000000000000 + 3908300000×t − 5775×t×t"
 unfoldable pub W : ℕ → ℕ
@@ -20,18 +20,18 @@ scaled r = r * 10000000000
 
 -- "The temperature of r is the largest t with n×W(t) ≤ r×10000000000. It exists exactly when n×W(0) ≤ r×10000000000 ≤ n×W(18000)";
 -- where it does not, the answer is the end of the range that r misses
-unfoldable pub of_resistance : ℕ → ℕ → Measured
+unfoldable pub of_resistance : ℕ → ℕ → Result Temperature Unmeasured
 of_resistance n r =
-    cond (ltb (scaled r) (n * W 0)) (Outside Low)
-    (cond (ltb (n * W last_hundredth) (scaled r)) (Outside High)
-    (At (record { 0 = largest (λ t. leb (n * W t) (scaled r)) last_hundredth })))
+    cond (ltb (scaled r) (n * W 0)) (Err (Outside Low))
+    (cond (ltb (n * W last_hundredth) (scaled r)) (Err (Outside High))
+    (Ok (record { 0 = largest (λ t. leb (n * W t) (scaled r)) last_hundredth })))
 
-abbrev pub of_kind : SensorField → ℕ → Measured
-of_kind (Kind s) r = of_resistance (resistance_of s) r
-of_kind Unknown r = NoSensor
+abbrev pub of_kind : Result Sensor Unmeasured → ℕ → Result Temperature Unmeasured
+of_kind (Ok s) r = of_resistance (resistance_of s) r
+of_kind (Err e) r = Err e
 
 -- of a card's sensor field and a reading
-unfoldable pub temperature_of : ℕ → ℕ → Measured
+unfoldable pub temperature_of : ℕ → ℕ → Result Temperature Unmeasured
 temperature_of field r = of_kind (sensor_of field) r
 
 -- The two sentences as statements about t. `Answered` and `Exactly` of specs/Theorems.antt say of `of_resistance` that it answers a temperature

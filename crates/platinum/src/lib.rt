@@ -6,5 +6,5 @@ mod reading;
 mod search;
 mod sensor;
 
-pub use reading::{Measured, temperature};
-pub use sensor::{Sensor, SensorField};
+pub use reading::{Unmeasured, temperature};
+pub use sensor::Sensor;

@@ -2,6 +2,8 @@
 ghost use Rattle.std.specs.Prelude.{◌≡◌};
 ghost use Rattle.platinum.specs.Sensor.{sensor_of, resistance_of};
 
+use crate::reading::Unmeasured;
+
 // A sensor kind, by its nominal resistance.
 #[derive(Clone, Copy, Debug, PartialEq, Eq)]
 pub enum Sensor {
@@ -10,33 +12,30 @@ pub enum Sensor {
     Pt1000,
 }
 
-// What a card's sensor field names.
-#[derive(Clone, Copy, Debug, PartialEq, Eq)]
-pub enum SensorField {
-    Kind(Sensor),
-    Unknown,
+// The kind that a card's field names by its resistance.
+impl TryFrom<u64> for Sensor {
+    type Error = Unmeasured;
+
+    ghost try_from_gives = { λ field r. r ≡ sensor_of field };
+
+    #[tactic(auto, unfolding(crate::specs::Sensor::sensor_of))]
+    fn try_from(field: u64) -> Result<Self, Unmeasured> {
+        match field {
+            Sensor::OHM_PT100 => Ok(Sensor::Pt100),
+            Sensor::OHM_PT500 => Ok(Sensor::Pt500),
+            Sensor::OHM_PT1000 => Ok(Sensor::Pt1000),
+            _ => Err(Unmeasured::NoSensor),
+        }
+    }
 }
 
 impl Sensor {
-    // Resistances at 0 °C, in ohm.
+    // Resistances at 0 °C, in ohm. Kept as constants, not discriminants: a rule of the project ("Forms that document 01 names", docs/DECISIONS.md).
     pub const OHM_PT100: u64 = 100;
 
     pub const OHM_PT500: u64 = 500;
 
     pub const OHM_PT1000: u64 = 1000;
-
-    // The kind that a card's field names by its resistance.
-    #[tactic(auto, unfolding(crate::specs::Sensor::sensor_of))]
-    pub fn from_field(field: u64) -> SensorField
-        ensures { result ≡ sensor_of field }
-    {
-        match field {
-            Sensor::OHM_PT100 => SensorField::Kind(Sensor::Pt100),
-            Sensor::OHM_PT500 => SensorField::Kind(Sensor::Pt500),
-            Sensor::OHM_PT1000 => SensorField::Kind(Sensor::Pt1000),
-            _ => SensorField::Unknown,
-        }
-    }
 
     // The resistance at 0 °C, in ohm.
     #[tactic(auto, unfolding(crate::specs::Sensor::resistance_of))]
