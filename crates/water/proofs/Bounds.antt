@@ -9,7 +9,8 @@ use lib.Dec.{T, leb, leb→le}
 use lib.ListN.{get_or}
 use Rattle.quantity.proofs.Span.{span, below}
 use Rattle.water.specs.Table.{Table, water}
-use Rattle.water.specs.Inside.Lists.{enthalpies, volumes, Right}
+use Rattle.water.specs.declared.tables.TheConstants.{ENTHALPY, VOLUME}
+use Rattle.water.specs.Inside.Lists.{Right}
 use Rattle.water.specs.Theorems.{TableBounds, WaterBounded}
 use Rattle.water.proofs.Entries.{water_right}
 
@@ -45,5 +46,4 @@ bounded w hs vs r s t k m = record {
 }
 
 pub water_bounded : WaterBounded
-unfolding enthalpies volumes
-water_bounded = bounded water enthalpies volumes water_right tt tt tt tt
+water_bounded = bounded water ENTHALPY VOLUME water_right tt tt tt tt

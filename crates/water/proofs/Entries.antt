@@ -1,20 +1,23 @@
 -- Each entry of a table's two arrays is the rounded IF97 value: one test that is computed over all degrees, and the law
 -- that gives it at one of them. Stated for any table and any two lists, and used for the table of document 01.
 -- Assumes nothing.
-use mathlib.Core.Path.{◌≡◌}
+use mathlib.Core.Path.{◌≡◌, refl}
+use borrow.Author.Tests.{le-leb}
 use mathlib.Core.Bool.{Bool, ◌&&◌}
 use mathlib.Core.List.{List}
-use Prim.Native.Nat.{ℕ, suc, ◌≤◌}
+use Prim.Native.Nat.{ℕ, suc, ◌≤◌, ◌<◌}
 use native.Mathlib.Omega.{arith}
 use lib.Dec.{T, eqb, eqb→eq}
 use lib.ListN.{get_or}
 use mir.Facts.{and_yes}
 use Rattle.quantity.proofs.Span.{span, below, join}
 use Rattle.water.specs.If97.{enthalpy, volume}
-use Rattle.water.specs.Table.{Table, enthalpy_entry, volume_entry, water}
+use Rattle.water.specs.Table.{Table, enthalpy_entry, volume_entry, water, entry_of}
+use Rattle.water.specs.declared.answers.Entry.TheVariants.{At}
 use Rattle.water.specs.Interpolation.{interpolated}
 use Rattle.water.proofs.Interpolated.{alike}
-use Rattle.water.specs.Inside.Lists.{enthalpies, volumes, Right, WaterRight}
+use Rattle.water.specs.declared.tables.TheConstants.{ENTHALPY, VOLUME}
+use Rattle.water.specs.Inside.Lists.{Right, WaterRight}
 
 -- the test: both entries of a degree are the table's
 unfoldable pub is_right : Table → List ℕ → List ℕ → ℕ → Bool
@@ -30,16 +33,16 @@ right w hs vs t = record { enthalpy = λ d l. eqb→eq _ _ (both d l).0; volume 
         (below (is_right w hs vs) (suc w.last) t d (omega arith))
 
 -- for the arrays of src/tables.rt the test is computed in two parts, since one declaration may take 50 million steps
-cooler : T (span (is_right water enthalpies volumes) 0 90)
-unfolding is_right enthalpies volumes enthalpy_entry volume_entry enthalpy volume
+cooler : T (span (is_right water ENTHALPY VOLUME) 0 90)
+unfolding is_right enthalpy_entry volume_entry enthalpy volume
 cooler = tt
 
-warmer : T (span (is_right water enthalpies volumes) 90 91)
-unfolding is_right enthalpies volumes enthalpy_entry volume_entry enthalpy volume
+warmer : T (span (is_right water ENTHALPY VOLUME) 90 91)
+unfolding is_right enthalpy_entry volume_entry enthalpy volume
 warmer = tt
 
 pub water_right : WaterRight
-water_right = right water enthalpies volumes (join (is_right water enthalpies volumes) 90 91 0 cooler warmer)
+water_right = right water ENTHALPY VOLUME (join (is_right water ENTHALPY VOLUME) 90 91 0 cooler warmer)
 
 -- where the entries are right, so is what lies between them
 module _ (w : Table) (hs vs : List ℕ) (r : Right w hs vs) where
@@ -48,3 +51,9 @@ module _ (w : Table) (hs vs : List ℕ) (r : Right w hs vs) where
 
   pub volume_between : (t : ℕ) → interpolated (λ d. get_or vs d 0) w.last t ≡ interpolated w.specific_volume w.last t
   volume_between = alike (λ d. get_or vs d 0) w.specific_volume w.last r.volume
+
+-- the entry that the code answers
+pub entry_at : (d h v : ℕ) → d < 181 → h ≡ get_or ENTHALPY d 0 → v ≡ get_or VOLUME d 0 → At h v ≡ entry_of water d
+unfolding entry_of
+entry_at d h v l p q =
+    rw (p, q, water_right.enthalpy d (omega arith), water_right.volume d (omega arith), le-leb d 180 (omega arith)) refl

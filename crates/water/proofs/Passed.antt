@@ -1,11 +1,10 @@
 -- What holds of a pair of temperatures that no row refuses, whatever rows follow.
 -- Assumes nothing.
 use mathlib.Core.Path.{◌≡◌}
-use mathlib.Core.Bool.{Bool, true, false, cond}
+use mathlib.Core.Bool.{false}
 use mathlib.Core.List.{List, ◌++◌}
 use Prim.Native.Nat.{ℕ, ◌*◌, ◌≤◌, ◌<◌}
 use native.Mathlib.Omega.{arith}
-use lib.Dec.{eqb}
 use borrow.Author.Tests.{ltb-true, ltb-false, le-ltb, not-false}
 use Rattle.quantity.specs.declared.units.Temperature.{Temperature}
 use Rattle.quantity.specs.Units.{is_colder}
@@ -13,7 +12,7 @@ use Rattle.quantity.specs.Refusals.{Row, first_of, NoneApplies}
 use Rattle.quantity.specs.Theorems.{after}
 use Rattle.quantity.proofs.Rows.{accumulated}
 use Rattle.water.specs.Table.{Table}
-use Rattle.water.specs.Pair.{at_place, are_equal, pair_rows}
+use Rattle.water.specs.Pair.{are_equal, pair_rows}
 
 -- the rows that follow, as code takes them
 pub rows_more :
@@ -41,12 +40,3 @@ passed w ts tr place rs h = (
 -- two temperatures in order that are not equal
 pub apart : (a b : Temperature) → b.0 ≤ a.0 → are_equal a b ≡ false → b.0 < a.0
 apart a b p q = ltb-true b.0 a.0 (not-false (is_colder b a) (rw (le-ltb a.0 b.0 p) at q))
-
--- the place's temperature is one of the two
-pub at_place_at_most : (place : ℕ) (ts tr : Temperature) (n : ℕ) → ts.0 ≤ n → tr.0 ≤ n → (at_place place ts tr).0 ≤ n
-unfolding at_place
-at_place_at_most place ts tr n p q = go (eqb place 2)
-  where
-    go : (b : Bool) → (cond b tr ts).0 ≤ n
-    go true = q
-    go false = p

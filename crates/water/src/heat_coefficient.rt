@@ -1,13 +1,12 @@
 // The heat coefficient (document 01, "Water table" and the row "Coefficient").
-ghost use Rattle.std.specs.Prelude.{◌≡◌, ◌<◌, ◌≤◌};
-ghost use Rattle.quantity.specs.Units.{last_hundredth};
+ghost use Rattle.std.specs.Prelude.{◌≡◌, ◌<◌};
 ghost use Rattle.water.specs.Table.{water};
+ghost use Rattle.water.specs.Pair.{at_place};
 ghost use Rattle.water.specs.Coefficient.{coefficient_of, floored_coefficient};
 
 use crate::answers::Coefficient;
-use crate::interpolation::{enthalpy_rise, volume_at};
-use crate::pair::{are_equal, at_place, pair_refusal};
-use crate::parts::scaled_quotient;
+use crate::interpolation::{enthalpy_rise, water_at};
+use crate::pair::{Pair, are_equal, pair_refusal};
 use quantity::{Outcome, Temperature};
 
 // The coefficient in J/(m³ K) of a supply and a return temperature, with the volume measured at the place. Any content is
@@ -20,19 +19,25 @@ pub fn coefficient(ts: Temperature, tr: Temperature, place: u64) -> Coefficient
     match refusal {
         Outcome::Refused(number) => Coefficient::Refused(number),
         Outcome::Accepted => {
-            let measured = at_place(place, ts, tr);
-            Coefficient::Value(floored_coefficient(ts, tr, measured))
+            let pair = Pair {
+                supply: water_at(ts),
+                returned: water_at(tr),
+                place,
+            };
+            Coefficient::Value(pair.floored_coefficient())
         }
     }
 }
 
-// The volume is measured at the third temperature. 10^11 is taken as 1000 × 10^8, so that no product passes 64 bits.
-#[tactic(auto, unfolding(crate::specs::Coefficient::floored_coefficient))]
-fn floored_coefficient(ts: Temperature, tr: Temperature, measured: Temperature) -> u64
-    requires { (tr.0 < ts.0) × (ts.0 ≤ last_hundredth) × (measured.0 ≤ last_hundredth) }
-    ensures { result ≡ floored_coefficient water ts tr measured }
-{
-    let rise = enthalpy_rise(ts, tr);
-    let difference = ts.distance(tr);
-    scaled_quotient(1000, 100000000 * rise, volume_at(measured) * difference.0)
+impl Pair {
+    #[tactic(auto, unfolding(crate::specs::Coefficient::floored_coefficient))]
+    fn floored_coefficient(self) -> u64
+        requires { self.returned.temperature.0 < self.supply.temperature.0 }
+        ensures { result ≡ floored_coefficient water self.supply.temperature self.returned.temperature (at_place self.place self.supply.temperature self.returned.temperature) }
+    {
+        let rise = enthalpy_rise(self.supply, self.returned);
+        let difference = self.supply.temperature.distance(self.returned.temperature);
+        let denominator = u128::from(self.measured().volume) * u128::from(difference.0);
+        (100000000000 * u128::from(rise) / denominator) as u64
+    }
 }

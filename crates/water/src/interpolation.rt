@@ -7,42 +7,56 @@ ghost use Rattle.water.specs.Interpolation.{interpolated, enthalpy_at, volume_at
 use crate::tables::{ENTHALPY, VOLUME};
 use quantity::Temperature;
 
+// Water at a temperature of the table: H in 10^-2 mJ/kg and V in 10^-14 m³/kg, with the bounds that keep the code's products in range.
+#[derive(Clone, Copy)]
+pub(crate) struct WaterAt {
+    pub(crate) temperature: Temperature,
+    pub(crate) enthalpy: u64,
+    pub(crate) volume: u64,
+    ghost in_table: { temperature.0 ≤ last_hundredth },
+    ghost is_enthalpy: { enthalpy ≡ enthalpy_at water temperature },
+    ghost is_volume: { volume ≡ volume_at water temperature },
+    ghost most_enthalpy: { enthalpy ≤ 80000000000 },
+    ghost least_volume: { 90000000000 ≤ volume },
+    ghost most_volume: { volume ≤ 113000000000 },
+}
+
+pub(crate) fn water_at(temperature: Temperature) -> WaterAt
+    requires { temperature.0 ≤ last_hundredth }
+    ensures { result.temperature ≡ temperature }
+{
+    WaterAt {
+        temperature,
+        enthalpy: interpolate(&ENTHALPY, temperature.0),
+        volume: interpolate(&VOLUME, temperature.0),
+    }
+}
+
 // Of any table's entries, at hundredths of a degree.
 #[tactic(auto, using(crate::proofs::Interpolated::below_last, crate::proofs::Interpolated::from_last))]
-pub(crate) fn interpolate(entries: &[u32], t: u64) -> u64
+fn interpolate(entries: &[u32], t: u64) -> u64
     requires { t < 100 * length entries.now }
     ensures { result ≡ interpolated (λ d. get_or entries.now d 0) (length entries.now - 1) t }
 {
     let d = (t / 100) as usize;
-    if d + 1 < entries.len() {
-        mixed(entries[d], entries[d + 1], t % 100)
-    } else {
-        100 * (entries[d] as u64)
+    match entries.get(d + 1) {
+        Some(next) => mixed(entries[d], *next, t % 100),
+        None => 100 * u64::from(entries[d]),
     }
 }
 
-// f hundredths of the way from one entry to the next.
-#[tactic(auto, using(crate::proofs::Interpolated::mixed_lies))]
+// f hundredths of the way from an entry's number to the next one's.
 fn mixed(low: u32, high: u32, f: u64) -> u64
     requires { f < 100 }
     ensures { result ≡ (100 - f) * low + f * high }
 {
-    (100 - f) * (low as u64) + f * (high as u64)
+    (100 - f) * u64::from(low) + f * u64::from(high)
 }
 
-// H(warm) − H(cold). The table is lent once for both.
-pub(crate) fn enthalpy_rise(warm: Temperature, cold: Temperature) -> u64
-    requires { (cold.0 ≤ warm.0) × (warm.0 ≤ last_hundredth) }
-    ensures { result ≡ enthalpy_at water warm - enthalpy_at water cold }
+// H(warm) − H(cold).
+pub(crate) fn enthalpy_rise(warm: WaterAt, cold: WaterAt) -> u64
+    requires { cold.temperature.0 ≤ warm.temperature.0 }
+    ensures { result ≡ enthalpy_at water warm.temperature - enthalpy_at water cold.temperature }
 {
-    let entries = &ENTHALPY;
-    interpolate(entries, warm.0) - interpolate(entries, cold.0)
-}
-
-// V(t).
-pub(crate) fn volume_at(t: Temperature) -> u64
-    requires { t.0 ≤ last_hundredth }
-    ensures { result ≡ volume_at water t }
-{
-    interpolate(&VOLUME, t.0)
+    warm.enthalpy - cold.enthalpy
 }

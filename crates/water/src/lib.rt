@@ -6,7 +6,6 @@ mod answers;
 mod heat_coefficient;
 mod interpolation;
 mod pair;
-mod parts;
 mod tables;
 mod volume_heat;
 

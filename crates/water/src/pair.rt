@@ -1,17 +1,33 @@
 // A supply and a return temperature, and the place where the volume is measured.
-ghost use Rattle.std.specs.Prelude.{◌≡◌};
+ghost use Rattle.std.specs.Prelude.{◌≡◌, ◌≤◌};
+ghost use Rattle.quantity.specs.Units.{last_hundredth};
 ghost use Rattle.quantity.specs.Refusals.{first_of};
 ghost use Rattle.water.specs.Table.{water};
 ghost use Rattle.water.specs.Pair.{at_place, are_equal, pair_rows};
 
+use crate::interpolation::WaterAt;
 use quantity::{End, LAST_HUNDREDTH, Outcome, Position, Temperature, end_number, is_outside};
 
-// The temperature at the place.
-#[tactic(auto, unfolding(crate::specs::Pair::at_place))]
-pub(crate) fn at_place(place: u64, ts: Temperature, tr: Temperature) -> Temperature
-    ensures { result ≡ at_place place ts tr }
-{
-    if place == 2 { tr } else { ts }
+// The water in the supply and in the return pipe, and the place.
+#[derive(Clone, Copy)]
+pub(crate) struct Pair {
+    pub(crate) supply: WaterAt,
+    pub(crate) returned: WaterAt,
+    pub(crate) place: u64,
+}
+
+impl Pair {
+    // The water at the place.
+    #[tactic(auto, unfolding(crate::specs::Pair::at_place))]
+    pub(crate) fn measured(self) -> WaterAt
+        ensures { result.temperature ≡ at_place self.place self.supply.temperature self.returned.temperature }
+    {
+        if self.place == 2 {
+            self.returned
+        } else {
+            self.supply
+        }
+    }
 }
 
 // Whether neither is below the other.

@@ -3,11 +3,11 @@ ghost use Rattle.std.specs.Prelude.{◌≡◌};
 ghost use Rattle.water.specs.Table.{water, entry_of};
 
 use crate::answers::Entry;
-use quantity::LAST_DEGREE;
 
 // One for every whole degree from 0 to the last.
 const ENTRIES: usize = 181;
 
+// Two tables and not one of pairs: document 01, "Choosing the form by place", names "two constant tables of 181 numbers".
 // The specific enthalpy in mJ/kg.
 pub(crate) const ENTHALPY: [u32; ENTRIES] = [
     1585887, 5796270, 10003604, 14208149, 18410140, 22609790, 26807293, 31002825, 35196546,
@@ -63,17 +63,16 @@ pub(crate) const VOLUME: [u32; ENTRIES] = [
 ];
 
 // The entry of a whole degree.
-#[tactic(auto, using(crate::proofs::Entries::water_right), unfolding(crate::specs::Inside::Lists::enthalpies, crate::specs::Inside::Lists::volumes, crate::specs::Table::entry_of))]
+#[tactic(auto, using(crate::proofs::Entries::entry_at), unfolding(crate::specs::Table::entry_of))]
 pub fn table_entry(degree: u64) -> Entry
     ensures { result ≡ entry_of water degree }
 {
-    if degree <= LAST_DEGREE {
-        let d = degree as usize;
-        Entry::At {
-            enthalpy: ENTHALPY[d] as u64,
-            volume: VOLUME[d] as u64,
-        }
-    } else {
-        Entry::Outside
+    let d = degree as usize;
+    match (ENTHALPY.get(d), VOLUME.get(d)) {
+        (Some(enthalpy), Some(volume)) => Entry::At {
+            enthalpy: u64::from(*enthalpy),
+            volume: u64::from(*volume),
+        },
+        _ => Entry::Outside,
     }
 }

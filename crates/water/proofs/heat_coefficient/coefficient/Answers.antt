@@ -1,16 +1,16 @@
 -- By the outcome of the rows: the pair's, then the two that follow.
-use Rattle.std.proofs.Common.{◌≡◌, ℕ, ◌<◌, Bool, List, [], ◌∷◌, ◌++◌, ◌∙◌, arith, sym, ap, ltb-false}
+use Rattle.std.proofs.Common.{◌≡◌, ℕ, ◌<◌, Bool, List, [], ◌∷◌, ◌++◌, ◌∙◌, sym, ap, ltb-false}
 use Rattle.quantity.specs.declared.units.Temperature.{Temperature}
 use Rattle.quantity.specs.declared.refusal.Outcome.{Outcome}
 use Rattle.quantity.specs.declared.refusal.Outcome.TheVariants.{Accepted}
 use Rattle.quantity.specs.Refusals.{Row, row, first_of, or_row}
 use Rattle.quantity.proofs.Rows.{none_applies}
-use Rattle.quantity.specs.Units.{last_hundredth, is_colder}
+use Rattle.quantity.specs.Units.{is_colder}
 use Rattle.water.specs.Table.{water}
 use Rattle.water.specs.declared.answers.Coefficient.TheVariants.{Value}
 use Rattle.water.specs.Pair.{are_equal, pair_rows}
 use Rattle.water.specs.Coefficient.{coefficient_of}
-use Rattle.water.proofs.Passed.{Passed, rows_more, passed, apart, at_place_at_most}
+use Rattle.water.proofs.Passed.{Passed, rows_more, passed, apart}
 use Rattle.water.proofs.heat_coefficient.coefficient.Goals as goal
 
 -- the rows after those of the pair, under any two numbers
@@ -34,6 +34,30 @@ accepted ts tr place m n e =
     let p = passed water ts tr place (last m n ts tr) (none_applies (pair_rows water ts tr place ++ last m n ts tr) e) in
     (apart ts tr (ltb-false _ _ p.1.0) p.1.1.0, p.0)
 
+pub water_at-requires : goal.water_at-requires
+water_at-requires c =
+    let a = c.args in
+    let e =
+    outcome a.ts a.tr a.place _ _
+    c.pair_refusal.ensures
+    c.is_below.ensures
+    c.or_row-refusal.ensures
+    c.are_equal.ensures
+    c.or_row-refusal-2.ensures in
+    (accepted a.ts a.tr a.place _ _ (sym e ∙ c.in-Accepted.is)).1.supply
+
+pub water_at-requires-in-Accepted : goal.water_at-requires-in-Accepted
+water_at-requires-in-Accepted c =
+    let a = c.args in
+    let e =
+    outcome a.ts a.tr a.place _ _
+    c.pair_refusal.ensures
+    c.is_below.ensures
+    c.or_row-refusal.ensures
+    c.are_equal.ensures
+    c.or_row-refusal-2.ensures in
+    (accepted a.ts a.tr a.place _ _ (sym e ∙ c.in-Accepted.is)).1.return
+
 pub floored_coefficient-requires : goal.floored_coefficient-requires
 floored_coefficient-requires c =
     let a = c.args in
@@ -44,11 +68,8 @@ floored_coefficient-requires c =
     c.or_row-refusal.ensures
     c.are_equal.ensures
     c.or_row-refusal-2.ensures in
-    let p = accepted a.ts a.tr a.place _ _ (sym e ∙ c.in-Accepted.is) in (
-      p.0,
-      p.1.supply,
-      rw c.at_place-measured.ensures (at_place_at_most _ _ _ last_hundredth (omega arith) (omega arith)),
-    )
+    rw (c.water_at.ensures, c.water_at-in-Accepted.ensures)
+    (accepted a.ts a.tr a.place _ _ (sym e ∙ c.in-Accepted.is)).0
 
 pub returns-in-Refused : goal.returns-in-Refused
 unfolding coefficient_of
@@ -74,4 +95,5 @@ returns-in-Accepted c =
     c.or_row-refusal.ensures
     c.are_equal.ensures
     c.or_row-refusal-2.ensures in
-    simp (coefficient_of, sym e ∙ c.in-Accepted.is, ← c.at_place-measured.ensures) (ap Value c.floored_coefficient.ensures)
+    simp (coefficient_of, sym e ∙ c.in-Accepted.is)
+    (ap Value (rw (c.water_at.ensures, c.water_at-in-Accepted.ensures) at c.floored_coefficient.ensures))

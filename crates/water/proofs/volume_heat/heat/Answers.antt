@@ -1,5 +1,5 @@
 -- By the outcome of the rows: the pair's, then the volume's.
-use Rattle.std.proofs.Common.{◌≡◌, ℕ, List, [], ◌∷◌, ◌∙◌, sym, ap, ltb, ltb-false}
+use Rattle.std.proofs.Common.{◌≡◌, ℕ, List, [], ◌∷◌, ◌≤◌, ◌∙◌, sym, ap, ltb, ltb-false}
 use Rattle.quantity.specs.declared.units.Temperature.{Temperature}
 use Rattle.quantity.specs.declared.refusal.Outcome.{Outcome}
 use Rattle.quantity.specs.declared.refusal.Outcome.TheVariants.{Accepted}
@@ -9,7 +9,7 @@ use Rattle.water.specs.Table.{water}
 use Rattle.water.specs.Pair.{pair_rows}
 use Rattle.water.specs.declared.answers.Heat.TheVariants.{Millijoules}
 use Rattle.water.specs.Heat.{heat_rows, heat_of}
-use Rattle.water.proofs.Passed.{rows_more, passed}
+use Rattle.water.proofs.Passed.{Passed, rows_more, passed}
 use Rattle.water.proofs.volume_heat.heat.Goals as goal
 
 -- the row after those of the pair
@@ -23,13 +23,30 @@ outcome :
     second ≡ first_of (heat_rows water u ts tr place)
 outcome u ts tr place d e = simp (e, d) (rows_more water ts tr place (last u))
 
-pub floored_pair_heat-requires : goal.floored_pair_heat-requires
-floored_pair_heat-requires c =
+-- where no row applies, both temperatures lie in the table, and the volume is within its limit
+accepted :
+    (u : ℕ) (ts tr : Temperature) (place : ℕ) {first second : Outcome} →
+    first ≡ first_of (pair_rows water ts tr place) → second ≡ or_row first (ltb 1000000 u) 31 → second ≡ Accepted →
+    Passed water ts tr × (u ≤ 1000000)
+accepted u ts tr place d e is =
+    let none = none_applies (heat_rows water u ts tr place) (sym (outcome u ts tr place d e) ∙ is) in
+    let p = passed water ts tr place (last u) none in
+    (p.0, ltb-false 1000000 u p.1.0)
+
+pub water_at-requires : goal.water_at-requires
+water_at-requires c =
     let a = c.args in
-    let accepted : first_of (heat_rows water a.u a.ts a.tr a.place) ≡ Accepted =
-    sym (outcome a.u a.ts a.tr a.place c.pair_refusal.ensures c.or_row-refusal.ensures) ∙ c.in-Accepted.is in
-    let p = passed water a.ts a.tr a.place (last a.u) (none_applies (heat_rows water a.u a.ts a.tr a.place) accepted) in
-    (ltb-false 1000000 a.u p.1.0, p.0.supply, p.0.return)
+    (accepted a.u a.ts a.tr a.place c.pair_refusal.ensures c.or_row-refusal.ensures c.in-Accepted.is).0.supply
+
+pub water_at-requires-in-Accepted : goal.water_at-requires-in-Accepted
+water_at-requires-in-Accepted c =
+    let a = c.args in
+    (accepted a.u a.ts a.tr a.place c.pair_refusal.ensures c.or_row-refusal.ensures c.in-Accepted.is).0.return
+
+pub floored_heat-requires : goal.floored_heat-requires
+floored_heat-requires c =
+    let a = c.args in
+    (accepted a.u a.ts a.tr a.place c.pair_refusal.ensures c.or_row-refusal.ensures c.in-Accepted.is).1
 
 pub returns-in-Refused : goal.returns-in-Refused
 unfolding heat_of
@@ -42,4 +59,4 @@ unfolding heat_of
 returns-in-Accepted c =
     let a = c.args in
     simp (heat_of, sym (outcome a.u a.ts a.tr a.place c.pair_refusal.ensures c.or_row-refusal.ensures) ∙ c.in-Accepted.is)
-    (ap Millijoules c.floored_pair_heat.ensures)
+    (ap Millijoules (rw (c.water_at.ensures, c.water_at-in-Accepted.ensures) at c.floored_heat.ensures))
