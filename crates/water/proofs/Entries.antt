@@ -13,7 +13,7 @@ use mir.Facts.{and_yes}
 use Rattle.quantity.proofs.Span.{span, below, join}
 use Rattle.water.specs.If97.{enthalpy, volume}
 use Rattle.water.specs.Table.{Table, enthalpy_entry, volume_entry, water, entry_of}
-use Rattle.water.specs.declared.answers.Entry.TheVariants.{At}
+use Rattle.std.specs.Prelude.{Some}
 use Rattle.water.specs.Interpolation.{interpolated}
 use Rattle.water.proofs.Interpolated.{alike}
 use Rattle.water.specs.declared.tables.TheConstants.{ENTHALPY, VOLUME}
@@ -53,7 +53,9 @@ module _ (w : Table) (hs vs : List ℕ) (r : Right w hs vs) where
   volume_between = alike (λ d. get_or vs d 0) w.specific_volume w.last r.volume
 
 -- the entry that the code answers
-pub entry_at : (d h v : ℕ) → d < 181 → h ≡ get_or ENTHALPY d 0 → v ≡ get_or VOLUME d 0 → At h v ≡ entry_of water d
+pub entry_at :
+    (d h v : ℕ) → d < 181 → h ≡ get_or ENTHALPY d 0 → v ≡ get_or VOLUME d 0 →
+    Some (record { enthalpy = h; volume = v }) ≡ entry_of water d
 unfolding entry_of
 entry_at d h v l p q =
     rw (p, q, water_right.enthalpy d (omega arith), water_right.volume d (omega arith), le-leb d 180 (omega arith)) refl

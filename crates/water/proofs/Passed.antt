@@ -1,42 +1,60 @@
--- What holds of a pair of temperatures that no row refuses, whatever rows follow.
+-- What holds of a pair of temperatures that no row refuses, and the answer of rows that are tried in two parts.
 -- Assumes nothing.
-use mathlib.Core.Path.{◌≡◌}
+use mathlib.Core.Path.{◌≡◌, refl}
 use mathlib.Core.Bool.{false}
 use mathlib.Core.List.{List, ◌++◌}
 use Prim.Native.Nat.{ℕ, ◌*◌, ◌≤◌, ◌<◌}
 use native.Mathlib.Omega.{arith}
-use borrow.Author.Tests.{ltb-true, ltb-false, le-ltb, not-false}
+use lib.Dec.{eqb}
+use Rattle.std.proofs.lemmas.Bool.Decides.{nat_tests}
+use borrow.Author.Tests.{ltb-false}
+use Rattle.std.specs.Prelude.{Result, Ok, Err}
+use Rattle.std.specs.Result.{result_and, IsErrAnd}
+use Rattle.std.proofs.lemmas.Result.{err_from_is_err_and}
 use Rattle.quantity.specs.declared.units.Temperature.{Temperature}
+use Rattle.quantity.specs.declared.refusal.Refusal.{Refusal}
+use Rattle.quantity.specs.declared.refusal.Row.{Row}
 use Rattle.quantity.specs.Units.{is_colder}
-use Rattle.quantity.specs.Refusals.{Row, first_of, NoneApplies}
-use Rattle.quantity.specs.Theorems.{after}
-use Rattle.quantity.proofs.Rows.{accumulated}
+use Rattle.quantity.specs.Refusals.{first_of}
+use Rattle.quantity.proofs.Rows.{none_applies, parts}
 use Rattle.water.specs.Table.{Table}
 use Rattle.water.specs.Pair.{are_equal, pair_rows}
-
--- the rows that follow, as code takes them
-pub rows_more :
-    (w : Table) (ts tr : Temperature) (place : ℕ) (rs : List Row) →
-    after (first_of (pair_rows w ts tr place)) rs ≡ first_of (pair_rows w ts tr place ++ rs)
-rows_more w ts tr place rs =
-    let first = pair_rows w ts tr place in
-    rw (← accumulated first) (accumulated (first ++ rs))
 
 pub record Passed (w : Table) (ts tr : Temperature) : Type 0 where
   pub supply : ts.0 ≤ 100 * w.last
   pub return : tr.0 ≤ 100 * w.last
 
-pub passed :
-    (w : Table) (ts tr : Temperature) (place : ℕ) (rs : List Row) →
-    NoneApplies (pair_rows w ts tr place ++ rs) → Passed w ts tr × NoneApplies rs
-passed w ts tr place rs h = (
-  record {
-    supply = omega (arith, ltb-false (w.last * 100) ts.0 h.1.0);
-    return = omega (arith, ltb-false (w.last * 100) tr.0 h.1.1.0);
-  },
-  h.1.1.1,
-)
+pub passed : (w : Table) (ts tr : Temperature) (place : ℕ) → first_of (pair_rows w ts tr place) ≡ Ok tt → Passed w ts tr
+passed w ts tr place e =
+    let none = none_applies (pair_rows w ts tr place) e in
+    record {
+      supply = omega (arith, ltb-false (w.last * 100) ts.0 none.1.0);
+      return = omega (arith, ltb-false (w.last * 100) tr.0 none.1.1.0);
+    }
 
--- two temperatures in order that are not equal
-pub apart : (a b : Temperature) → b.0 ≤ a.0 → are_equal a b ≡ false → b.0 < a.0
-apart a b p q = ltb-true b.0 a.0 (not-false (is_colder b a) (rw (le-ltb a.0 b.0 p) at q))
+-- a supply that is neither the colder nor equal is the warmer
+pub apart : (a b : Temperature) → is_colder a b ≡ false → are_equal a b ≡ false → b.0 < a.0
+apart a b p q = grind (arith, nat_tests)
+
+-- two temperatures are equal as their hundredths are
+pub equal_exactly : (a b : Temperature) → eqb a.0 b.0 ≡ are_equal a b
+equal_exactly a b = grind (arith, nat_tests)
+
+-- the first part refuses, or else the second, or else there is the value
+module _ (rs ss : List Row) (answer : Result ℕ Refusal) where
+  pub first_refuses :
+      (out : Result ℕ Refusal) (r : Refusal) → IsErrAnd out (λ e. e ≡ r) → first_of rs ≡ Err r →
+      out ≡ result_and (first_of (rs ++ ss)) answer
+  first_refuses out r h e =
+      let p = err_from_is_err_and out h in
+      rw (parts rs ss, e, p.1, p.2) refl
+
+  pub second_refuses :
+      (out : Result ℕ Refusal) (r : Refusal) → IsErrAnd out (λ e. e ≡ r) → first_of rs ≡ Ok tt → first_of ss ≡ Err r →
+      out ≡ result_and (first_of (rs ++ ss)) answer
+  second_refuses out r h e f =
+      let p = err_from_is_err_and out h in
+      rw (parts rs ss, e, f, p.1, p.2) refl
+
+  pub neither_refuses : first_of rs ≡ Ok tt → first_of ss ≡ Ok tt → answer ≡ result_and (first_of (rs ++ ss)) answer
+  neither_refuses e f = rw (parts rs ss, e, f) refl

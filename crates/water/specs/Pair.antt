@@ -5,8 +5,10 @@ use Rattle.quantity.specs.declared.units.Temperature.{Temperature}
 use Rattle.quantity.specs.declared.range.Position.TheVariants.{Supply, Return}
 use Rattle.quantity.specs.declared.range.End.TheVariants.{High}
 use Rattle.quantity.specs.Units.{is_colder, whole_degrees}
-use Rattle.quantity.specs.Range.{end_number}
-use Rattle.quantity.specs.Refusals.{Row, row, outside}
+use Rattle.quantity.specs.Range.{end_refusal}
+use Rattle.quantity.specs.Refusals.{row, outside}
+use Rattle.quantity.specs.declared.refusal.Refusal.TheVariants.{Place}
+use Rattle.quantity.specs.declared.refusal.Row.{Row}
 use Rattle.water.specs.Table.{Table}
 
 -- the temperature at the place
@@ -25,6 +27,6 @@ is_above w t = is_colder (whole_degrees w.last) t
 -- return above 180.00 °C, in the places of 32 and 33" (document 02, request 1). No t is below 0.00 °C, so that 32 and 33 no longer come.
 abbrev pub pair_rows : Table → Temperature → Temperature → ℕ → List Row
 pair_rows w ts tr place =
-    row 11 (outside place 1 2)
-    ∷ row (end_number Supply High) (is_above w ts) ∷ row (end_number Return High) (is_above w tr)
+    row Place (outside place 1 2)
+    ∷ row (end_refusal Supply High) (is_above w ts) ∷ row (end_refusal Return High) (is_above w tr)
     ∷ []

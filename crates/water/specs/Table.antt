@@ -1,12 +1,11 @@
 -- The water table, document 01: "The table has one entry for every whole degree from 0 to 180: specific enthalpy h in
 -- mJ/kg and specific volume v in 10^-12 m³/kg. Each is the exact IF97 region 1 value at 1.6 MPa, rounded to nearest, halves
 -- up." No other definition of an operation names the pressure.
-use Rattle.std.specs.Prelude.{ℕ, ◌^◌, cond, leb}
+use Rattle.std.specs.Prelude.{ℕ, ◌^◌, cond, leb, Option, Some, None}
 use Rattle.quantity.specs.Units.{last_degree}
 use Rattle.water.specs.Signed.{SignedFraction, decimal_number, ◌⊕◌, ◌⊗◌, nearest}
 use Rattle.water.specs.If97.{enthalpy, volume}
-use Rattle.water.specs.declared.answers.Entry.{Entry}
-use Rattle.water.specs.declared.answers.Entry.TheVariants.{At, Outside}
+use Rattle.water.specs.declared.tables.Entry.{Entry}
 
 -- a table: its last degree, and its entries by the degree
 pub record Table : Type 0 where
@@ -33,6 +32,6 @@ table_at bar n = record { last = n; specific_enthalpy = enthalpy_entry bar; spec
 abbrev pub water : Table
 water = table_at 16 last_degree
 
--- what a table has at any whole degree
-unfoldable pub entry_of : Table → ℕ → Entry
-entry_of w d = cond (leb d w.last) (At (w.specific_enthalpy d) (w.specific_volume d)) Outside
+-- what a table has at any whole degree: an entry, or none past its last
+unfoldable pub entry_of : Table → ℕ → Option Entry
+entry_of w d = cond (leb d w.last) (Some (record { enthalpy = w.specific_enthalpy d; volume = w.specific_volume d })) None

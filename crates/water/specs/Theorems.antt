@@ -1,14 +1,13 @@
 -- What is proved of the water table and of the heat, statement by statement. Each is proved in proofs/ under its name in small letters. All but
 -- `WaterBounded` are over any table, so that a second table is a second use. (That the arrays of the code are the table is the contract of
 -- `table_entry`.)
-use Rattle.std.specs.Prelude.{◌≡◌, false, ℕ, ◌+◌, ◌*◌, ◌≤◌, ◌<◌}
+use Rattle.std.specs.Prelude.{◌≡◌, false, ℕ, ◌+◌, ◌*◌, ◌≤◌, ◌<◌, Ok}
 use Rattle.quantity.specs.declared.units.Temperature.{Temperature}
 use Rattle.quantity.specs.Fractions.{whole, IsFraction, AtMost, floored}
 use Rattle.quantity.specs.Refusals.{outside}
 use Rattle.water.specs.Table.{Table, water}
 use Rattle.water.specs.Interpolation.{enthalpy_at, volume_at}
 use Rattle.water.specs.Heat.{exact_heat, pair_heat, heat_of}
-use Rattle.water.specs.declared.answers.Heat.{Heat}
 
 -- The bounds of a table that the register's bounds and the 64 bits of the code rest on.
 -- h in mJ/kg grows by at least 4,100,000 per degree and is at most 800,000,000; v in 10^-12 m³/kg is at least 900,000,000
@@ -50,4 +49,4 @@ abbrev pub HeatAccepted : Type 0
 HeatAccepted =
     (w : Table) (u : ℕ) (ts tr : Temperature) (place : ℕ) →
     outside place 1 2 ≡ false → ts.0 ≤ 100 * w.last → tr.0 ≤ 100 * w.last → u ≤ 1000000 →
-    heat_of w u ts tr place ≡ Heat.Millijoules (floored (pair_heat w u ts tr place))
+    heat_of w u ts tr place ≡ Ok (floored (pair_heat w u ts tr place))

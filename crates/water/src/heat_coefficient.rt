@@ -1,32 +1,33 @@
 // The heat coefficient (document 01, "Water table" and the row "Coefficient").
 ghost use Rattle.std.specs.Prelude.{◌≡◌, ◌<◌};
+ghost use Rattle.quantity.specs.Refusals.{first_of};
 ghost use Rattle.water.specs.Table.{water};
 ghost use Rattle.water.specs.Pair.{at_place};
-ghost use Rattle.water.specs.Coefficient.{coefficient_of, floored_coefficient};
+ghost use Rattle.water.specs.Coefficient.{order_rows, coefficient_of, floored_coefficient};
 
-use crate::answers::Coefficient;
-use crate::interpolation::{enthalpy_rise, water_at};
-use crate::pair::{Pair, are_equal, pair_refusal};
-use quantity::{Outcome, Temperature};
+use crate::interpolation::enthalpy_rise;
+use crate::pair::Pair;
+use quantity::{Refusal, Temperature, first_refusal};
 
 // The coefficient in J/(m³ K) of a supply and a return temperature, with the volume measured at the place. Any content is
 // answered.
-pub fn coefficient(ts: Temperature, tr: Temperature, place: u64) -> Coefficient
+pub fn coefficient(ts: Temperature, tr: Temperature, place: u64) -> Result<u64, Refusal>
     ensures { result ≡ coefficient_of water ts tr place }
 {
-    let refusal = pair_refusal(ts, tr, place).or_row(ts.is_below(tr), 36);
-    let refusal = refusal.or_row(are_equal(ts, tr), 37);
-    match refusal {
-        Outcome::Refused(number) => Coefficient::Refused(number),
-        Outcome::Accepted => {
-            let pair = Pair {
-                supply: water_at(ts),
-                returned: water_at(tr),
-                place,
-            };
-            Coefficient::Value(pair.floored_coefficient())
-        }
-    }
+    let pair = Pair::new(ts, tr, place)?;
+    order_refusal(ts, tr)?;
+    Ok(pair.floored_coefficient())
+}
+
+// The supply has to be the warmer.
+#[tactic(auto, using(crate::proofs::Passed::equal_exactly))]
+fn order_refusal(ts: Temperature, tr: Temperature) -> Result<(), Refusal>
+    ensures { result ≡ first_of (order_rows ts tr) }
+{
+    first_refusal(&[
+        Refusal::SupplyBelowReturn.when(ts < tr),
+        Refusal::DifferenceTooSmall.when(ts == tr),
+    ])
 }
 
 impl Pair {

@@ -2,14 +2,12 @@
 // coefficient and the heat of a volume.
 #![tactic(auto)]
 
-mod answers;
 mod heat_coefficient;
 mod interpolation;
 mod pair;
 mod tables;
 mod volume_heat;
 
-pub use answers::{Coefficient, Entry, Heat};
 pub use heat_coefficient::coefficient;
-pub use tables::table_entry;
+pub use tables::{Entry, table_entry};
 pub use volume_heat::heat;

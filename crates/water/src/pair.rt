@@ -1,22 +1,36 @@
 // A supply and a return temperature, and the place where the volume is measured.
-ghost use Rattle.std.specs.Prelude.{◌≡◌, ◌≤◌};
-ghost use Rattle.quantity.specs.Units.{last_hundredth};
+ghost use Rattle.std.specs.Prelude.{◌≡◌, Ok, Err, IfOk, MatchResult};
 ghost use Rattle.quantity.specs.Refusals.{first_of};
 ghost use Rattle.water.specs.Table.{water};
-ghost use Rattle.water.specs.Pair.{at_place, are_equal, pair_rows};
+ghost use Rattle.water.specs.Pair.{at_place, pair_rows};
 
-use crate::interpolation::WaterAt;
-use quantity::{End, LAST_HUNDREDTH, Outcome, Position, Temperature, end_number, is_outside};
+use crate::interpolation::{WaterAt, water_at};
+use quantity::{
+    End, LAST_HUNDREDTH, Position, Refusal, Temperature, end_refusal, first_refusal, is_outside,
+};
 
 // The water in the supply and in the return pipe, and the place.
 #[derive(Clone, Copy)]
 pub(crate) struct Pair {
     pub(crate) supply: WaterAt,
     pub(crate) returned: WaterAt,
+    // The papers' number, 1 or 2. An enum is no plainer: it would take row 11 out of the table of rows, to be matched once.
     pub(crate) place: u64,
 }
 
 impl Pair {
+    pub(crate) fn new(ts: Temperature, tr: Temperature, place: u64) -> Result<Pair, Refusal>
+        ensures rows { MatchResult result (λ _. first_of (pair_rows water ts tr place) ≡ Ok tt) (λ r. first_of (pair_rows water ts tr place) ≡ Err r) }
+        ensures pair { IfOk result (λ p. (p.supply.temperature ≡ ts) × (p.returned.temperature ≡ tr) × (p.place ≡ place)) }
+    {
+        pair_refusal(ts, tr, place)?;
+        Ok(Pair {
+            supply: water_at(ts),
+            returned: water_at(tr),
+            place,
+        })
+    }
+
     // The water at the place.
     #[tactic(auto, unfolding(crate::specs::Pair::at_place))]
     pub(crate) fn measured(self) -> WaterAt
@@ -30,21 +44,14 @@ impl Pair {
     }
 }
 
-// Whether neither is below the other.
-pub(crate) fn are_equal(a: Temperature, b: Temperature) -> bool
-    ensures { result ≡ are_equal a b }
-{
-    !a.is_below(b) & !b.is_below(a)
-}
-
-// The outcome of the rows that the coefficient and the heat of a volume have in common.
-pub(crate) fn pair_refusal(ts: Temperature, tr: Temperature, place: u64) -> Outcome
+// The rows that the coefficient and the heat of a volume have in common.
+fn pair_refusal(ts: Temperature, tr: Temperature, place: u64) -> Result<(), Refusal>
     ensures { result ≡ first_of (pair_rows water ts tr place) }
 {
     let top = Temperature(LAST_HUNDREDTH);
-    let supply_number = end_number(Position::Supply, End::High);
-    let return_number = end_number(Position::Return, End::High);
-    let r = Outcome::Accepted.or_row(is_outside(place, 1, 2), 11);
-    let r = r.or_row(top.is_below(ts), supply_number);
-    r.or_row(top.is_below(tr), return_number)
+    first_refusal(&[
+        Refusal::Place.when(is_outside(place, 1, 2)),
+        end_refusal(Position::Supply, End::High).when(top < ts),
+        end_refusal(Position::Return, End::High).when(top < tr),
+    ])
 }

@@ -2,7 +2,12 @@
 ghost use Rattle.std.specs.Prelude.{◌≡◌};
 ghost use Rattle.water.specs.Table.{water, entry_of};
 
-use crate::answers::Entry;
+// The water table at a whole degree: the specific enthalpy in mJ/kg and the specific volume in 10^-12 m³/kg.
+#[derive(Clone, Copy, Debug, PartialEq, Eq)]
+pub struct Entry {
+    pub enthalpy: u64,
+    pub volume: u64,
+}
 
 // One for every whole degree from 0 to the last.
 const ENTRIES: usize = 181;
@@ -64,15 +69,12 @@ pub(crate) const VOLUME: [u32; ENTRIES] = [
 
 // The entry of a whole degree.
 #[tactic(auto, using(crate::proofs::Entries::entry_at), unfolding(crate::specs::Table::entry_of))]
-pub fn table_entry(degree: u64) -> Entry
+pub fn table_entry(degree: u64) -> Option<Entry>
     ensures { result ≡ entry_of water degree }
 {
     let d = degree as usize;
-    match (ENTHALPY.get(d), VOLUME.get(d)) {
-        (Some(enthalpy), Some(volume)) => Entry::At {
-            enthalpy: u64::from(*enthalpy),
-            volume: u64::from(*volume),
-        },
-        _ => Entry::Outside,
-    }
+    Some(Entry {
+        enthalpy: u64::from(*ENTHALPY.get(d)?),
+        volume: u64::from(*VOLUME.get(d)?),
+    })
 }

@@ -4,28 +4,18 @@ ghost use Rattle.water.specs.Table.{water};
 ghost use Rattle.quantity.specs.Fractions.{floored};
 ghost use Rattle.water.specs.Heat.{pair_heat, heat_of};
 
-use crate::answers::Heat;
-use crate::interpolation::{enthalpy_rise, water_at};
-use crate::pair::{Pair, pair_refusal};
-use quantity::{Outcome, Temperature};
+use crate::interpolation::enthalpy_rise;
+use crate::pair::Pair;
+use quantity::{Refusal, Temperature, first_refusal};
 
-// The floored heat in mJ of u mL between a supply and a return temperature, whichever is the warmer, with the volume measured at the
-// place. Any content is answered.
-pub fn heat(u: u64, ts: Temperature, tr: Temperature, place: u64) -> Heat
+// The floored heat in mJ of u mL between a supply and a return temperature, or its cold where the supply is the colder, with the volume
+// measured at the place. Any content is answered.
+pub fn heat(u: u64, ts: Temperature, tr: Temperature, place: u64) -> Result<u64, Refusal>
     ensures { result ≡ heat_of water u ts tr place }
 {
-    let refusal = pair_refusal(ts, tr, place).or_row(1000000 < u, 31);
-    match refusal {
-        Outcome::Refused(number) => Heat::Refused(number),
-        Outcome::Accepted => {
-            let pair = Pair {
-                supply: water_at(ts),
-                returned: water_at(tr),
-                place,
-            };
-            Heat::Millijoules(pair.floored_heat(u))
-        }
-    }
+    let pair = Pair::new(ts, tr, place)?;
+    first_refusal(&[Refusal::Volume.when(1000000 < u)])?;
+    Ok(pair.floored_heat(u))
 }
 
 impl Pair {
@@ -35,7 +25,7 @@ impl Pair {
         requires { u ≤ 1000000 }
         ensures { result ≡ floored (pair_heat water u self.supply.temperature self.returned.temperature self.place) }
     {
-        let rise = if self.supply.temperature.is_below(self.returned.temperature) {
+        let rise = if self.supply.temperature < self.returned.temperature {
             enthalpy_rise(self.returned, self.supply)
         } else {
             enthalpy_rise(self.supply, self.returned)
