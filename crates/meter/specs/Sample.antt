@@ -1,7 +1,7 @@
 -- A sample's volume, temperatures and exact heat, document 01, "Meter's step": "A sample is pulses, seconds, supply reading, return
 -- reading. Volume u = pulses × mL per pulse. Its exact heat in mJ is 1000000×u×(H(ts)−H(tr))/V, V at the card's place." Where ts is below tr it
 -- is the exact cold, "the heat formula with the two enthalpies exchanged" (document 02, request 5).
-use Rattle.std.specs.Prelude.{ℕ, ◌*◌, Bool, ltb}
+use Rattle.std.specs.Prelude.{ℕ, ◌*◌, List, [], ◌∷◌, Bool, ltb}
 use Rattle.quantity.specs.declared.units.Temperature.{Temperature}
 use Rattle.platinum.specs.Temperature.{temperature_of}
 use Rattle.platinum.specs.declared.reading.Measured.{Measured}
@@ -10,6 +10,14 @@ use Rattle.quantity.specs.declared.fraction.Fraction.{Fraction}
 use Rattle.water.specs.Heat.{pair_heat}
 use Rattle.meter.specs.declared.card.Card.{Card}
 use Rattle.meter.specs.declared.sample.Sample.{Sample}
+
+-- "A sample is pulses, seconds, supply reading, return reading."
+unfoldable pub fields_of : Sample → List ℕ
+fields_of s = s.pulses ∷ s.seconds ∷ s.supply_reading ∷ s.return_reading ∷ []
+
+-- how many they are
+abbrev pub sample_fields : ℕ
+sample_fields = 4
 
 -- u, in mL
 unfoldable pub volume_of : Card → Sample → ℕ

@@ -12,7 +12,7 @@ use quantity::{LARGEST_KELVINS, LAST_DEGREE, Outcome, is_outside};
 pub const CARD_FIELDS: usize = 12;
 
 // What is fixed about a meter when it is built in, in document 01's order. Any content can stand here.
-#[derive(Clone, Copy)]
+#[derive(Clone, Copy, Debug, PartialEq, Eq)]
 pub struct Card {
     pub serial: u64,
     pub place: u64,
@@ -28,25 +28,70 @@ pub struct Card {
     pub ps: u64,
 }
 
+// The card of twelve numbers: the one place of this crate that builds a card.
+impl From<[u64; CARD_FIELDS]> for Card {
+    ghost from_gives = { λ f c. fields_of c ≡ f };
+
+    fn from(f: [u64; CARD_FIELDS]) -> Card {
+        let [
+            serial,
+            place,
+            sensor,
+            ml_per_pulse,
+            theta_min,
+            theta_max,
+            delta_min,
+            delta_max,
+            qi,
+            qp,
+            qs,
+            ps,
+        ] = f;
+        Card {
+            serial,
+            place,
+            sensor,
+            ml_per_pulse,
+            theta_min,
+            theta_max,
+            delta_min,
+            delta_max,
+            qi,
+            qp,
+            qs,
+            ps,
+        }
+    }
+}
+
+// And a card's twelve numbers.
+impl From<Card> for [u64; CARD_FIELDS] {
+    ghost from_gives = { λ c f. f ≡ fields_of c };
+
+    #[tactic(auto, unfolding(crate::specs::Card::fields_of))]
+    fn from(c: Card) -> [u64; CARD_FIELDS] {
+        [
+            c.serial,
+            c.place,
+            c.sensor,
+            c.ml_per_pulse,
+            c.theta_min,
+            c.theta_max,
+            c.delta_min,
+            c.delta_max,
+            c.qi,
+            c.qp,
+            c.qs,
+            c.ps,
+        ]
+    }
+}
+
 impl Card {
-    // The one place of this crate that builds a card.
     pub fn from_fields(f: [u64; CARD_FIELDS]) -> Card
         ensures { fields_of result ≡ f }
     {
-        Card {
-            serial: f[0],
-            place: f[1],
-            sensor: f[2],
-            ml_per_pulse: f[3],
-            theta_min: f[4],
-            theta_max: f[5],
-            delta_min: f[6],
-            delta_max: f[7],
-            qi: f[8],
-            qp: f[9],
-            qs: f[10],
-            ps: f[11],
-        }
+        Card::from(f)
     }
 
     // The card's rows, 10 to 18.

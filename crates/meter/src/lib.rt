@@ -12,6 +12,6 @@ mod stepping;
 pub use card::{CARD_FIELDS, Card};
 pub use edition::{LAST_EDITION, counts_cold, is_other_edition, keeps_seconds};
 pub use register::Register;
-pub use sample::Sample;
+pub use sample::{SAMPLE_FIELDS, Sample};
 pub use state::{FreshMeter, Meter, fresh};
 pub use stepping::{Stepped, step};

@@ -6,7 +6,7 @@ use crate::state::Meter;
 use quantity::Temperature;
 
 // Which register is meant.
-#[derive(Clone, Copy)]
+#[derive(Clone, Copy, Debug, PartialEq, Eq)]
 pub enum Register {
     Heat,
     Cold,

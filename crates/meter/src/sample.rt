@@ -7,7 +7,7 @@ ghost use Rattle.platinum.specs.Refusal.{end_rows};
 ghost use Rattle.quantity.specs.Units.{is_colder};
 ghost use Rattle.meter.specs.Edition.{keeps_seconds, counts_cold};
 ghost use Rattle.meter.specs.Card.{card_rows};
-ghost use Rattle.meter.specs.Sample.{temperature_or_missing};
+ghost use Rattle.meter.specs.Sample.{fields_of, temperature_or_missing};
 ghost use Rattle.meter.specs.Step.{outside_theta, count_rows, is_above_qs, range_rows, kept_of};
 ghost use Rattle.meter.specs.Inside.Stages.{WithVolume, Paired};
 
@@ -17,13 +17,41 @@ use crate::state::MOST_SECONDS;
 use platinum::Measured;
 use quantity::{Difference, Outcome, Position, Temperature, is_outside};
 
+// How many numbers a sample has.
+pub const SAMPLE_FIELDS: usize = 4;
+
 // What the flow sensor and the temperature sensor pair gave in some seconds. Any content can stand here.
-#[derive(Clone, Copy)]
+#[derive(Clone, Copy, Debug, PartialEq, Eq)]
 pub struct Sample {
     pub pulses: u64,
     pub seconds: u64,
     pub supply_reading: u64,
     pub return_reading: u64,
+}
+
+// The sample of four numbers.
+impl From<[u64; SAMPLE_FIELDS]> for Sample {
+    ghost from_gives = { λ f s. fields_of s ≡ f };
+
+    fn from(f: [u64; SAMPLE_FIELDS]) -> Sample {
+        let [pulses, seconds, supply_reading, return_reading] = f;
+        Sample {
+            pulses,
+            seconds,
+            supply_reading,
+            return_reading,
+        }
+    }
+}
+
+// And a sample's four numbers.
+impl From<Sample> for [u64; SAMPLE_FIELDS] {
+    ghost from_gives = { λ s f. f ≡ fields_of s };
+
+    #[tactic(auto, unfolding(crate::specs::Sample::fields_of))]
+    fn from(s: Sample) -> [u64; SAMPLE_FIELDS] {
+        [s.pulses, s.seconds, s.supply_reading, s.return_reading]
+    }
 }
 
 // Rows 30 and 31.

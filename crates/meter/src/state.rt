@@ -21,7 +21,7 @@ pub(crate) const MOST_SECONDS: u64 = 3600;
 // A meter: its card, its edition, the heat register in mJ, the volume in mL, how many samples were accepted and refused, the seconds of
 // the accepted ones that flowed above q_s, and the cold register in mJ. Any content can stand here; the step refuses a card or a state that
 // a row from 10 to 21 meets.
-#[derive(Clone, Copy)]
+#[derive(Clone, Copy, Debug, PartialEq, Eq)]
 pub struct Meter {
     pub card: Card,
     pub edition: u64,

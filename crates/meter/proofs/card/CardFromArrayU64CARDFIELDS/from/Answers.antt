@@ -2,7 +2,7 @@
 use Rattle.std.proofs.Common.{rules}
 use Rattle.meter.specs.Card.{card_fields, fields_of}
 use Rattle.meter.proofs.Elements.{all}
-use Rattle.meter.proofs.card.Card.from_fields.Goals as goal
+use Rattle.meter.proofs.card.CardFromArrayU64CARDFIELDS.from.Goals as goal
 
 pub returns : goal.returns
 unfolding fields_of
