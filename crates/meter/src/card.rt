@@ -123,33 +123,18 @@ fn is_no_sensor(field: u64) -> bool
 fn is_theta_refused(min: u64, max: u64) -> bool
     ensures { result ≡ (leb max min || ltb last_degree max) }
 {
-    if max <= min {
-        return true;
-    }
-    LAST_DEGREE < max
+    max <= min || LAST_DEGREE < max
 }
 
 // Ten times the least difference can pass 64 bits, so the largest one is divided instead.
 fn is_delta_max_refused(min: u64, max: u64) -> bool
     ensures { result ≡ (ltb max (10 * min) || ltb largest_kelvins max) }
 {
-    if max / 10 < min {
-        return true;
-    }
-    LARGEST_KELVINS < max
+    max / 10 < min || LARGEST_KELVINS < max
 }
 
 fn are_flows_refused(qi: u64, qp: u64, qs: u64) -> bool
     ensures { result ≡ not (leb 1 qi && leb qi qp && leb qp qs && leb qs (10 ^ 9)) }
 {
-    if qi < 1 {
-        return true;
-    }
-    if qp < qi {
-        return true;
-    }
-    if qs < qp {
-        return true;
-    }
-    1000000000 < qs
+    !(1 <= qi && qi <= qp && qp <= qs && qs <= 1000000000)
 }

@@ -1,12 +1,12 @@
 // The state of a meter (document 01, "Card"; document 02, requests 2 and 5), its fresh start and its refusals.
-ghost use Rattle.std.specs.Prelude.{◌≡◌, ◌+◌, min, not, ◌&&◌, ◌||◌, ltb};
+ghost use Rattle.std.specs.Prelude.{◌≡◌, not, ◌&&◌, ◌||◌, ltb};
 ghost use Rattle.quantity.specs.Refusals.{first_of};
 ghost use Rattle.meter.specs.Step.{card_and_state_rows};
-ghost use Rattle.meter.specs.State.{fresh_rows, fresh_of, state_rows, largest_count, passes_limit_by, misfits_edition};
+ghost use Rattle.meter.specs.State.{fresh_rows, fresh_of, state_rows, passes_limit_by, misfits_edition};
 
 use crate::card::Card;
 use crate::edition::{counts_cold, is_other_edition, keeps_seconds};
-use quantity::{Outcome, product_less};
+use quantity::Outcome;
 
 // The limits of rows 20 and 21.
 pub(crate) const LARGEST_REGISTER: u64 = 999999999999999999;
@@ -86,11 +86,11 @@ pub(crate) fn card_and_state_refusal(m: Meter) -> Outcome
     }
 }
 
-// Rows 20 and 21.
+// Rows 20 and 21. The sum of the two counts can pass 64 bits: it is capped there, far above its limit.
 fn state_refusal(m: Meter) -> Outcome
     ensures { result ≡ first_of (state_rows m) }
 {
-    let count = capped_count(m.accepted, m.refused);
+    let count = m.accepted.saturating_add(m.refused);
     let r = Outcome::Accepted.or_row(is_state_refused(m, count), 20);
     r.or_row(count == LARGEST_COUNT, 21)
 }
@@ -99,10 +99,7 @@ fn state_refusal(m: Meter) -> Outcome
 fn is_state_refused(m: Meter, count: u64) -> bool
     ensures { result ≡ (passes_limit_by m count || misfits_edition m) }
 {
-    if passes_a_limit(m, count) {
-        return true;
-    }
-    misfits_edition(m)
+    passes_a_limit(m, count) || misfits_edition(m)
 }
 
 // Another edition, kept seconds that cannot be, or a number in a field that the edition lacks. The limit of the kept seconds is compared in
@@ -112,49 +109,17 @@ fn misfits_edition(m: Meter) -> bool
 {
     let edition = m.edition;
     let kept = m.kept_seconds;
-    if is_other_edition(edition) {
-        return true;
-    }
-    if product_less(MOST_SECONDS, m.accepted, kept, 1) {
-        return true;
-    }
-    if is_lacked(keeps_seconds(edition), kept) {
-        return true;
-    }
-    is_lacked(counts_cold(edition), m.cold_register)
-}
-
-// Whether a number above zero stands in a field that the edition lacks.
-fn is_lacked(has: bool, number: u64) -> bool
-    ensures { result ≡ (not has && ltb 0 number) }
-{
-    !has & (0 < number)
+    is_other_edition(edition)
+        || m.accepted.saturating_mul(MOST_SECONDS) < kept
+        || (!keeps_seconds(edition) && 0 < kept)
+        || (!counts_cold(edition) && 0 < m.cold_register)
 }
 
 fn passes_a_limit(m: Meter, count: u64) -> bool
     ensures { result ≡ passes_limit_by m count }
 {
-    if LARGEST_REGISTER < m.register {
-        return true;
-    }
-    if LARGEST_REGISTER < m.cold_register {
-        return true;
-    }
-    if LARGEST_VOLUME < m.volume {
-        return true;
-    }
-    LARGEST_COUNT < count
-}
-
-// The two counts together, as far as one above their limit: the sum itself can pass 64 bits.
-fn capped_count(accepted: u64, refused: u64) -> u64
-    ensures { result ≡ min (accepted + refused) (largest_count + 1) }
-{
-    if LARGEST_COUNT < accepted {
-        return LARGEST_COUNT + 1;
-    }
-    if LARGEST_COUNT - accepted < refused {
-        return LARGEST_COUNT + 1;
-    }
-    accepted + refused
+    LARGEST_REGISTER < m.register
+        || LARGEST_REGISTER < m.cold_register
+        || LARGEST_VOLUME < m.volume
+        || LARGEST_COUNT < count
 }
