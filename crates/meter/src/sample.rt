@@ -1,6 +1,6 @@
 // A sample and the rows that refuse it by itself, by the meter's card and edition, whatever its totals (document 01, "Meter's step" and the
 // row "Sample"; document 02, requests 2 and 5).
-ghost use Rattle.std.specs.Prelude.{◌≡◌, not, ◌&&◌, ◌||◌, ◌++◌, ◌*◌, ◌≤◌, ltb};
+ghost use Rattle.std.specs.Prelude.{◌≡◌, not, ◌&&◌, ◌||◌, ◌++◌, ◌*◌, ltb};
 ghost use Rattle.quantity.specs.Refusals.{first_of, NoneApplies};
 ghost use Rattle.quantity.specs.declared.range.Position.TheVariants.{Supply, Return};
 ghost use Rattle.platinum.specs.Refusal.{end_rows};
@@ -55,24 +55,18 @@ impl From<Sample> for [u64; SAMPLE_FIELDS] {
 }
 
 // Rows 30 and 31.
-#[tactic(auto, using(crate::proofs::Accepted::accepted_card))]
 pub(crate) fn count_refusal(card: Card, s: Sample) -> Outcome
-    requires { NoneApplies (card_rows card) }
     ensures { result ≡ first_of (count_rows card s) }
 {
     let r = Outcome::Accepted.or_row(is_outside(s.seconds, 1, MOST_SECONDS), 30);
     r.or_row(is_too_much(s.pulses, card.ml_per_pulse), 31)
 }
 
-// Few enough pulses are tested first, so that the product fits.
+// A product that is capped where it passes 64 bits is too large as well.
 fn is_too_much(pulses: u64, ml_per_pulse: u64) -> bool
-    requires { ml_per_pulse ≤ 100000 }
     ensures { result ≡ (ltb 1000000 pulses || ltb 1000000 (pulses * ml_per_pulse)) }
 {
-    if 1000000 < pulses {
-        return true;
-    }
-    1000000 < pulses * ml_per_pulse
+    1000000 < pulses || 1000000 < pulses.saturating_mul(ml_per_pulse)
 }
 
 // Rows 32 and 70 of the supply, then 33 and 71 of the return.
@@ -125,7 +119,7 @@ pub(crate) fn range_refusal(
 fn is_order_refused(edition: u64, supply: Temperature, returned: Temperature) -> bool
     ensures { result ≡ (not (counts_cold edition) && is_colder supply returned) }
 {
-    !counts_cold(edition) & supply.is_below(returned)
+    !counts_cold(edition) && supply.is_below(returned)
 }
 
 // Flow above q_s is refused in an edition that does not keep the seconds of such a sample.
@@ -133,10 +127,7 @@ fn is_flow_refused(edition: u64, card: Card, s: Sample, volume: u64) -> bool
     requires { WithVolume card s volume }
     ensures { result ≡ (not (keeps_seconds edition) && is_above_qs card s) }
 {
-    if keeps_seconds(edition) {
-        return false;
-    }
-    is_above_qs(card, s, volume)
+    !keeps_seconds(edition) && is_above_qs(card, s, volume)
 }
 
 // Whether the volume flowed above q_s: exactly at q_s it did not.
@@ -167,9 +158,6 @@ fn is_outside_theta(card: Card, t: Temperature) -> bool
     ensures { result ≡ outside_theta card t }
 {
     let low = Temperature::of_degrees(card.theta_min as u32);
-    if t.is_below(low) {
-        return true;
-    }
     let high = Temperature::of_degrees(card.theta_max as u32);
-    high.is_below(t)
+    t.is_below(low) || high.is_below(t)
 }

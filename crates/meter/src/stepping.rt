@@ -132,15 +132,12 @@ fn limit_refusal(m: Meter, s: Sample, own: Register, heat: u64, volume: u64) -> 
     )
 }
 
-// A sum can pass 64 bits, so what is added is compared with the room that is left.
+// A sum that is capped where it passes 64 bits passes its limit as well.
 fn passes_limits(register: u64, heat: u64, volume: u64, added: u64) -> bool
-    requires { (register ≤ largest_register) × (volume ≤ largest_volume) }
     ensures { result ≡ (ltb largest_register (register + heat) || ltb largest_volume (volume + added)) }
 {
-    if LARGEST_REGISTER - register < heat {
-        return true;
-    }
-    LARGEST_VOLUME - volume < added
+    LARGEST_REGISTER < register.saturating_add(heat)
+        || LARGEST_VOLUME < volume.saturating_add(added)
 }
 
 // The meter with an accepted sample's volume and kept seconds, and its heat in the register whose own it is.
@@ -159,17 +156,14 @@ fn add(m: Meter, heat: u64, cold: u64, volume: u64, kept: u64) -> Stepped
     requires { Fits m heat cold volume kept }
     ensures { result ≡ record { meter = adding m heat cold volume kept; outcome = Outcome.Accepted } }
 {
-    let card = m.card;
     Stepped {
         meter: Meter {
-            card: card,
-            edition: m.edition,
             register: m.register + heat,
             volume: m.volume + volume,
             accepted: m.accepted + 1,
-            refused: m.refused,
             kept_seconds: m.kept_seconds + kept,
             cold_register: m.cold_register + cold,
+            ..m
         },
         outcome: Outcome::Accepted,
     }
@@ -180,17 +174,10 @@ fn refuse(m: Meter, number: u64) -> Stepped
     requires { m.accepted + m.refused < largest_count }
     ensures { result ≡ record { meter = refusing m; outcome = Outcome.Refused number } }
 {
-    let card = m.card;
     Stepped {
         meter: Meter {
-            card: card,
-            edition: m.edition,
-            register: m.register,
-            volume: m.volume,
-            accepted: m.accepted,
             refused: m.refused + 1,
-            kept_seconds: m.kept_seconds,
-            cold_register: m.cold_register,
+            ..m
         },
         outcome: Outcome::Refused(number),
     }

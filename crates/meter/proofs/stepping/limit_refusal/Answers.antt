@@ -1,14 +1,7 @@
 -- The two rows in order, of what the sample would add.
-use Rattle.std.proofs.Common.{arith}
 use Rattle.quantity.proofs.Rows.{accumulated}
 use Rattle.meter.specs.Step.{limit_rows}
-use Rattle.meter.proofs.Accepted.{accepted_state}
 use Rattle.meter.proofs.stepping.limit_refusal.Goals as goal
-
-pub passes_limits-requires : goal.passes_limits-requires
-passes_limits-requires c =
-    let h = accepted_state c.args.m c.requires.counted.before_sample.state in
-    rw c.register_of.ensures (omega (arith, h.registers), h.volume)
 
 pub returns : goal.returns
 unfolding limit_rows
