@@ -7,9 +7,9 @@ use native.Mathlib.Nat.{mul-le-mul}
 use native.Mathlib.Omega.{arith}
 use lib.Dec.{ltb, leb, eqb}
 use borrow.Author.Tests.{le-ltb, ltb-true, ltb-false, leb-true, leb-false, eqb-false, eqb-true, not-false}
-use Rattle.quantity.specs.Refusals.{outside, NoneApplies}
+use Rattle.quantity.specs.Refusals.{NoneApplies}
 use Rattle.quantity.proofs.Conditions.{neither, both, inside}
-use Rattle.quantity.specs.Units.{last_hundredth, last_degree, largest_kelvins, is_colder, distance_of}
+use Rattle.quantity.specs.Units.{last_hundredth, is_colder, distance_of}
 use Rattle.quantity.specs.declared.units.Temperature.{Temperature}
 use Rattle.quantity.specs.declared.range.Position.{Position}
 use Rattle.quantity.specs.declared.range.Position.TheVariants.{Supply, Return}
@@ -17,17 +17,18 @@ use Rattle.quantity.specs.declared.range.End.TheVariants.{Low, High}
 use Rattle.quantity.proofs.Rows.{none_of_parts}
 use Rattle.platinum.specs.Sensor.{sensor_of, is_unknown}
 use Rattle.platinum.specs.Refusal.{end_rows}
-use Rattle.platinum.specs.declared.reading.Measured.{Measured}
-use Rattle.platinum.specs.declared.reading.Measured.TheVariants.{At, Outside, NoSensor}
+use Rattle.std.specs.Prelude.{Result, Ok, Err}
+use Rattle.platinum.specs.declared.reading.Unmeasured.{Unmeasured}
+use Rattle.platinum.specs.declared.reading.Unmeasured.TheVariants.{NoSensor, Outside}
 use Rattle.platinum.specs.Temperature.{temperature_of}
 use Rattle.platinum.proofs.Answer.{within_range}
 use Rattle.meter.specs.Edition.{is_other_edition, keeps_seconds, counts_cold}
 use Rattle.meter.specs.Card.{card_rows}
 use Rattle.meter.specs.State.{state_rows, largest_register, largest_volume, largest_count, most_seconds, passes_limit, misfits_edition}
-use Rattle.meter.specs.Sample.{volume_of, supply_of, return_of, temperature_or_missing, ts, tr, sample_heat}
+use Rattle.meter.specs.Sample.{supply_of, return_of, temperature_or_missing, ts, tr}
 use Rattle.meter.specs.Register.{register_of, own_register}
 use Rattle.meter.specs.Step.{count_rows, reading_rows, is_above_qs, range_rows, limit_rows, kept_of}
-use Rattle.quantity.specs.Fractions.{floored}
+use Rattle.meter.specs.Inside.Stages.{AcceptedCard, AcceptedState, AcceptedCounts, AcceptedLimits}
 use Rattle.meter.specs.Theorems.{AcceptedHasTemperatures, LackedZero}
 use Rattle.meter.specs.declared.card.Card.{Card}
 use Rattle.meter.specs.declared.register.Register.{Register}
@@ -45,18 +46,6 @@ sensor_most n h = by (eqb n 100) (eqb n 500) (eqb n 1000) refl refl refl h
     by false true c e f g k = let z : n ≡ 500 = eqb-true n 500 f in omega (arith, z)
     by false false true e f g k = let z : n ≡ 1000 = eqb-true n 1000 g in omega (arith, z)
     by false false false e f g k = absurd (let z : true ≡ false = simp (e, f, g) at k in let y : ◌≡◌ {A = ℕ} 0 1 = cc in omega arith)
-
-pub record AcceptedCard (c : Card) : Type 0 where
-  pub serial : c.serial ≤ 99999999
-  pub sensor : c.sensor ≤ 1000
-  pub place : outside c.place 1 2 ≡ false
-  pub ml : (1 ≤ c.ml_per_pulse) × (c.ml_per_pulse ≤ 100000)
-  pub theta : (c.theta_min < c.theta_max) × (c.theta_max ≤ last_degree)
-  pub delta_min : (1 ≤ c.delta_min) × (c.delta_min ≤ 3)
-  pub delta_max : (10 * c.delta_min ≤ c.delta_max) × (c.delta_max ≤ largest_kelvins)
-  pub flow : c.qs ≤ 10 ^ 9
-  pub flows : (c.qi ≤ c.qp) × (c.qp ≤ c.qs)
-  pub power : (1 ≤ c.ps) × (c.ps ≤ 10 ^ 9)
 
 pub accepted_card : (c : Card) → NoneApplies (card_rows c) → AcceptedCard c
 unfolding card_rows
@@ -92,14 +81,6 @@ not_both has b h e = subst (λ (k : Bool). (not k && b) ≡ false) e h
 pub not_both_if : (has b : Bool) → (has ≡ false → b ≡ false) → (not has && b) ≡ false
 not_both_if true b h = refl
 not_both_if false b h = h refl
-
-pub record AcceptedState (m : Meter) : Type 0 where
-  pub registers : (r : Register) → register_of r m ≤ largest_register
-  pub volume : m.volume ≤ largest_volume
-  pub counts : m.accepted + m.refused < largest_count
-  pub edition : is_other_edition m.edition ≡ false
-  pub kept : m.kept_seconds ≤ most_seconds * m.accepted
-  pub lacked : LackedZero m.edition m
 
 -- a field that an edition lacks is zero
 lacked_zero : (has : Bool) (n : ℕ) → (not has && ltb 0 n) ≡ false → has ≡ false → n ≡ 0
@@ -152,11 +133,6 @@ fits_edition m known most lacked =
       zero_passes (counts_cold m.edition) m.cold_register lacked.cold,
     )
 
-pub record AcceptedCounts (c : Card) (s : Sample) : Type 0 where
-  pub seconds : (1 ≤ s.seconds) × (s.seconds ≤ most_seconds)
-  pub pulses : s.pulses ≤ 1000000
-  pub volume : volume_of c s ≤ 1000000
-
 pub accepted_counts : (c : Card) (s : Sample) → NoneApplies (count_rows c s) → AcceptedCounts c s
 unfolding count_rows
 accepted_counts c s h =
@@ -200,10 +176,6 @@ kept_at_most c s h = by (is_above_qs c s)
     by true = h.seconds.1
     by false = omega arith
 
-pub record AcceptedLimits (m : Meter) (s : Sample) : Type 0 where
-  pub own : register_of (own_register m.card s) m + floored (sample_heat m.card s) ≤ largest_register
-  pub volume : m.volume + volume_of m.card s ≤ largest_volume
-
 pub accepted_limits : (m : Meter) (s : Sample) → NoneApplies (limit_rows m s) → AcceptedLimits m s
 unfolding limit_rows
 accepted_limits m s h =
@@ -211,11 +183,11 @@ accepted_limits m s h =
     record { own = ltb-false _ _ room.0; volume = ltb-false _ _ room.1 }
 
 -- both readings have a temperature: the default of a missing one is never that of an accepted sample
-has_temperature : (p : Position) (x : Measured) → NoneApplies (end_rows p x) → (t : Temperature) × (x ≡ At t)
-has_temperature p (At t) h = (t, refl)
-has_temperature p (Outside Low) h = let z : ◌≡◌ {A = ℕ} 0 1 = cc h.0 in absurd (omega arith)
-has_temperature p (Outside High) h = let z : ◌≡◌ {A = ℕ} 0 1 = cc h.1.0 in absurd (omega arith)
-has_temperature p NoSensor h = let z : ◌≡◌ {A = ℕ} 0 1 = cc h.0 in absurd (omega arith)
+has_temperature : (p : Position) (x : Result Temperature Unmeasured) → NoneApplies (end_rows p x) → (t : Temperature) × (x ≡ Ok t)
+has_temperature p (Ok t) h = (t, refl)
+has_temperature p (Err (Outside Low)) h = let z : ◌≡◌ {A = ℕ} 0 1 = cc h.0 in absurd (omega arith)
+has_temperature p (Err (Outside High)) h = let z : ◌≡◌ {A = ℕ} 0 1 = cc h.1.0 in absurd (omega arith)
+has_temperature p (Err NoSensor) h = let z : ◌≡◌ {A = ℕ} 0 1 = cc h.0 in absurd (omega arith)
 
 pub accepted_has_temperatures : AcceptedHasTemperatures
 unfolding reading_rows
@@ -224,10 +196,9 @@ accepted_has_temperatures c s h =
     record { supply = has_temperature Supply _ p.0; returned = has_temperature Return _ p.1 }
 
 -- a temperature of the definitions, the default among them, is at most 180.00 °C
-by_answer : (x : Measured) → ((t : Temperature) → x ≡ At t → t.0 ≤ last_hundredth) → (temperature_or_missing x).0 ≤ last_hundredth
-by_answer (At t) h = h t refl
-by_answer (Outside e) h = omega arith
-by_answer NoSensor h = omega arith
+by_answer : (x : Result Temperature Unmeasured) → ((t : Temperature) → x ≡ Ok t → t.0 ≤ last_hundredth) → (temperature_or_missing x).0 ≤ last_hundredth
+by_answer (Ok t) h = h t refl
+by_answer (Err u) h = omega arith
 
 pub temperature_at_most : (field r : ℕ) → (temperature_or_missing (temperature_of field r)).0 ≤ last_hundredth
 temperature_at_most field r = by_answer (temperature_of field r) (within_range field r)

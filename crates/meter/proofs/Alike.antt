@@ -9,9 +9,10 @@ use native.Mathlib.Nat.{add-zero}
 use native.Mathlib.Omega.{arith}
 use borrow.Author.Tests.{le-ltb}
 use Rattle.quantity.specs.Units.{is_colder}
-use Rattle.quantity.specs.Refusals.{Row, outside, first_of}
-use Rattle.quantity.specs.declared.refusal.Outcome.{Outcome}
-use Rattle.quantity.specs.declared.refusal.Outcome.TheVariants.{Accepted, Refused}
+use Rattle.quantity.specs.Refusals.{outside, first_of}
+use Rattle.std.specs.Prelude.{Result, Ok, Err}
+use Rattle.quantity.specs.declared.refusal.Refusal.{Refusal}
+use Rattle.quantity.specs.declared.refusal.Row.{Row}
 use Rattle.quantity.proofs.Rows.{or_else, parts}
 use Rattle.meter.specs.Edition.{is_other_edition}
 use Rattle.meter.specs.Card.{card_rows}
@@ -44,33 +45,33 @@ module _ (f : Meter → Meter) (m : Meter) (s : Sample) (h : Alike f m s) where
   same_meter : is_accepted (step_of m s).outcome ≡ is_accepted (step_of (f m) s).outcome → (step_of (f m) s).meter ≡ f (step_of m s).meter
   unfolding step_of
   same_meter w =
-      ap (λ (o : Outcome). (by_card_and_state (f m) s o).meter) h.before
-      ∙ by (first_of (card_and_state_rows m)) (w ∙ ap (λ (o : Outcome). is_accepted (by_card_and_state (f m) s o).outcome) h.before)
+      ap (λ (o : Result Unit Refusal). (by_card_and_state (f m) s o).meter) h.before
+      ∙ by (first_of (card_and_state_rows m)) (w ∙ ap (λ (o : Result Unit Refusal). is_accepted (by_card_and_state (f m) s o).outcome) h.before)
     where
-      by_sample_lem : (o p : Outcome) → is_accepted (by_sample m s o).outcome ≡ is_accepted (by_sample (f m) s p).outcome →
+      by_sample_lem : (o p : Result Unit Refusal) → is_accepted (by_sample m s o).outcome ≡ is_accepted (by_sample (f m) s p).outcome →
           (by_sample (f m) s p).meter ≡ f (by_sample m s o).meter
-      by_sample_lem Accepted Accepted e = h.when_accepted
-      by_sample_lem Accepted (Refused n) e = let z : ◌≡◌ {A = ℕ} 0 1 = cc in absurd (omega arith)
-      by_sample_lem (Refused n) Accepted e = let z : ◌≡◌ {A = ℕ} 0 1 = cc in absurd (omega arith)
-      by_sample_lem (Refused n) (Refused k) e = h.when_refused
+      by_sample_lem (Ok u) (Ok v) e = h.when_accepted
+      by_sample_lem (Ok u) (Err n) e = let z : ◌≡◌ {A = ℕ} 0 1 = cc in absurd (omega arith)
+      by_sample_lem (Err n) (Ok u) e = let z : ◌≡◌ {A = ℕ} 0 1 = cc in absurd (omega arith)
+      by_sample_lem (Err n) (Err k) e = h.when_refused
 
-      by : (o : Outcome) → is_accepted (by_card_and_state m s o).outcome ≡ is_accepted (by_card_and_state (f m) s o).outcome →
+      by : (o : Result Unit Refusal) → is_accepted (by_card_and_state m s o).outcome ≡ is_accepted (by_card_and_state (f m) s o).outcome →
           (by_card_and_state (f m) s o).meter ≡ f (by_card_and_state m s o).meter
-      by Accepted e = by_sample_lem (first_of (sample_rows m s)) (first_of (sample_rows (f m) s)) e
-      by (Refused n) e = refl
+      by (Ok u) e = by_sample_lem (first_of (sample_rows m s)) (first_of (sample_rows (f m) s)) e
+      by (Err n) e = refl
 
   -- and it answers alike where the sample's rows lead to the same
   same_step : first_of (sample_rows (f m) s) ≡ first_of (sample_rows m s) → step_of (f m) s ≡ changed f (step_of m s)
   unfolding step_of
   same_step w = ap (by_card_and_state (f m) s) h.before ∙ by (first_of (card_and_state_rows m))
     where
-      by_sample_lem : (o : Outcome) → by_sample (f m) s o ≡ changed f (by_sample m s o)
-      by_sample_lem Accepted = ap (λ (x : Meter). record { meter = x; outcome = Accepted }) h.when_accepted
-      by_sample_lem (Refused n) = ap (λ (x : Meter). record { meter = x; outcome = Refused n }) h.when_refused
+      by_sample_lem : (o : Result Unit Refusal) → by_sample (f m) s o ≡ changed f (by_sample m s o)
+      by_sample_lem (Ok u) = ap (λ (x : Meter). record { meter = x; outcome = Ok tt }) h.when_accepted
+      by_sample_lem (Err n) = ap (λ (x : Meter). record { meter = x; outcome = Err n }) h.when_refused
 
-      by : (o : Outcome) → by_card_and_state (f m) s o ≡ changed f (by_card_and_state m s o)
-      by Accepted = ap (by_sample (f m) s) w ∙ by_sample_lem (first_of (sample_rows m s))
-      by (Refused n) = refl
+      by : (o : Result Unit Refusal) → by_card_and_state (f m) s o ≡ changed f (by_card_and_state m s o)
+      by (Ok u) = ap (by_sample (f m) s) w ∙ by_sample_lem (first_of (sample_rows m s))
+      by (Err n) = refl
 
 -- the rows of card and state lead to the same where those of the state do
 same_before : (c : Card) (rs ss : List Row) → first_of rs ≡ first_of ss → first_of (card_rows c ++ rs) ≡ first_of (card_rows c ++ ss)
@@ -170,14 +171,14 @@ both_within f m s g w =
     (same, still_within f m s g (ap (λ (b : Stepped). b.meter) same))
 
 -- and where the card is refused, which leaves a meter as it is
-by_card_lem : (m : Meter) (s : Sample) (n : ℕ) → first_of (card_rows m.card) ≡ Refused n → step_of m s ≡ record { meter = m; outcome = Refused n }
+by_card_lem : (m : Meter) (s : Sample) (n : Refusal) → first_of (card_rows m.card) ≡ Err n → step_of m s ≡ record { meter = m; outcome = Err n }
 unfolding step_of
-by_card_lem m s n e = ap (by_card_and_state m s) (parts (card_rows m.card) (state_rows m) ∙ ap (λ (o : Outcome). or_else o (first_of (state_rows m))) e)
+by_card_lem m s n e = ap (by_card_and_state m s) (parts (card_rows m.card) (state_rows m) ∙ ap (λ (o : Result Unit Refusal). or_else o (first_of (state_rows m))) e)
 
-card_refused : (f n : ℕ) → StepsAlike f (λ (m : Meter). first_of (card_rows m.card) ≡ Refused n)
+card_refused : (f : ℕ) (n : Refusal) → StepsAlike f (λ (m : Meter). first_of (card_rows m.card) ≡ Err n)
 card_refused f n m s e w =
     let left = by_card_lem m s n e in
-    (by_card_lem (with_edition f m) s n e ∙ sym (ap (changed (with_edition f)) left), subst (λ (a : Stepped). first_of (card_rows a.meter.card) ≡ Refused n) (sym left) e)
+    (by_card_lem (with_edition f m) s n e ∙ sym (ap (changed (with_edition f)) left), subst (λ (a : Stepped). first_of (card_rows a.meter.card) ≡ Err n) (sym left) e)
 
 -- so do fresh meters
 pub editions_agree : EditionsAgree
@@ -185,11 +186,11 @@ editions_agree c e f ss known known-too w =
     let p = by (first_of (card_rows c)) refl in
     record { marks = p.0; last = p.1 }
   where
-    by : (o : Outcome) → first_of (card_rows c) ≡ o → RunsAlike f (zeros c e) ss
-    by Accepted card =
+    by : (o : Result Unit Refusal) → first_of (card_rows c) ≡ o → RunsAlike f (zeros c e) ss
+    by (Ok u) card =
         let within : (x : ℕ) → is_other_edition x ≡ false → WithinLimits (zeros c x) = λ x k. fresh_within c x (zeros c x) (fresh_made c x card k) in
         agree f _ (both_within f) ss (zeros c e) (within e known, within f known-too) w
-    by (Refused n) card = agree f _ (card_refused f n) ss (zeros c e) card w
+    by (Err n) card = agree f _ (card_refused f n) ss (zeros c e) card w
 
 -- the marks tell which samples are accepted, and where these are the same each step leads to the same meter but for the edition
 same_last : (f : ℕ) (ss : List Sample) (m : Meter) → BothWithin f m → marks_of m ss ≡ marks_of (with_edition f m) ss →

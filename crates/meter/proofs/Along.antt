@@ -8,10 +8,11 @@ use Prim.Native.Nat.{ℕ, ◌+◌, ◌≤◌, ◌<◌}
 use native.Mathlib.Omega.{arith}
 use lib.Dec.{eqb}
 use borrow.Author.Tests.{le-ltb, eq-eqb, ne_eqb}
-use Rattle.quantity.specs.Refusals.{first_of}
-use Rattle.quantity.specs.Range.{end_number}
-use Rattle.quantity.specs.declared.refusal.Outcome.{Outcome}
-use Rattle.quantity.specs.declared.refusal.Outcome.TheVariants.{Accepted, Refused}
+use Rattle.quantity.specs.Refusals.{number_of, first_of}
+use Rattle.quantity.specs.Range.{end_refusal}
+use Rattle.std.specs.Prelude.{Result, Ok, Err}
+use Rattle.quantity.specs.declared.refusal.Refusal.{Refusal}
+use Rattle.quantity.specs.declared.refusal.Refusal.TheVariants.{CountsFull}
 use Rattle.quantity.proofs.Rows.{none_applies, none_of_parts, or_else, parts, of_some_row}
 use Rattle.meter.specs.Card.{card_rows}
 use Rattle.meter.specs.State.{fresh_of, state_rows, largest_register, largest_volume, largest_count}
@@ -25,7 +26,6 @@ use Rattle.meter.specs.declared.card.Card.{Card}
 use Rattle.meter.specs.declared.register.Register.{Register}
 use Rattle.meter.specs.declared.register.Register.TheVariants.{Heat, Cold}
 use Rattle.meter.specs.declared.state.Meter.{Meter}
-use Rattle.meter.specs.declared.state.FreshMeter.{FreshMeter}
 use Rattle.meter.specs.declared.sample.Sample.{Sample}
 use Rattle.meter.specs.declared.stepping.Stepped.{Stepped}
 use Rattle.meter.proofs.Accepted.{accepted_state, fits_edition, accepted_counts, accepted_flow, accepted_order, kept_none, kept_at_most, accepted_limits}
@@ -36,7 +36,7 @@ use Rattle.meter.proofs.Answers.{answered}
 use Rattle.meter.proofs.Theorem.{raised, fresh_zeros, edition_along}
 
 -- the counts have room where no row of card or state refuses
-pub room : (m : Meter) → first_of (card_and_state_rows m) ≡ Accepted → m.accepted + m.refused < largest_count
+pub room : (m : Meter) → first_of (card_and_state_rows m) ≡ Ok tt → m.accepted + m.refused < largest_count
 room m e = (accepted_state m (none_of_parts (card_rows m.card) (state_rows m) (none_applies (card_and_state_rows m) e)).1).counts
 
 pub within_after : (m : Meter) (s : Sample) (a : Stepped) → Answers m s a → WithinLimits m → WithinLimits a.meter
@@ -80,7 +80,7 @@ within_along g none = g
 within_along g (step {m = m} s a p rest) = within_along (within_after m s a (answered m s a p) g) rest
 
 -- a fresh meter is within its limits
-pub fresh_within : (c : Card) (e : ℕ) (m : Meter) → fresh_of c e ≡ FreshMeter.Made m → WithinLimits m
+pub fresh_within : (c : Card) (e : ℕ) (m : Meter) → fresh_of c e ≡ Ok m → WithinLimits m
 fresh_within c e m h =
     let f = fresh_zeros c e m h in
     subst WithinLimits f.meter
@@ -105,7 +105,7 @@ lacked_stays_zero c e m h ks z calls =
     subst (λ (x : ℕ). LackedZero x z) same (stays_within_limits c e m h ks z calls).lacked
 
 -- of the rows of card and state only 21 can refuse such a meter
-pub by_state : (m : Meter) → WithinLimits m → first_of (state_rows m) ≡ cond (eqb (m.accepted + m.refused) largest_count) (Refused 21) Accepted
+pub by_state : (m : Meter) → WithinLimits m → first_of (state_rows m) ≡ cond (eqb (m.accepted + m.refused) largest_count) (Err CountsFull) (Ok tt)
 unfolding state_rows first_of
 by_state m g =
     simp (
@@ -116,36 +116,41 @@ by_state m g =
       fits_edition m g.edition g.kept g.lacked,
     )
 
-is_21 : (b : Bool) (n : ℕ) → cond b (Refused 21) Accepted ≡ Refused n → (n ≡ 21) × (b ≡ true)
-is_21 true n e = (cc, refl)
-is_21 false n e = let z : ◌≡◌ {A = ℕ} 0 1 = cc in absurd (omega arith)
+is_21 : (b : Bool) (r : Refusal) → ◌≡◌ {A = Result Unit Refusal} (cond b (Err CountsFull) (Ok tt)) (Err r) → (r ≡ CountsFull) × (b ≡ true)
+is_21 true r e = (cc, refl)
+is_21 false r e = let z : ◌≡◌ {A = ℕ} 0 1 = cc in absurd (omega arith)
 
 -- and then the counts together are at their limit
-pub full : (m : Meter) (n : ℕ) → WithinLimits m → first_of (card_and_state_rows m) ≡ Refused n → (n ≡ 21) × (eqb (m.accepted + m.refused) largest_count ≡ true)
-full m n g e =
-    is_21 (eqb (m.accepted + m.refused) largest_count) n
+pub full : (m : Meter) (r : Refusal) → WithinLimits m → first_of (card_and_state_rows m) ≡ Err r → (r ≡ CountsFull) × (eqb (m.accepted + m.refused) largest_count ≡ true)
+full m r g e =
+    is_21 (eqb (m.accepted + m.refused) largest_count) r
     (sym (by_state m g)
-    ∙ sym (ap (λ (o : Outcome). or_else o (first_of (state_rows m))) g.card)
+    ∙ sym (ap (λ (o : Result Unit Refusal). or_else o (first_of (state_rows m))) g.card)
     ∙ sym (parts (card_rows m.card) (state_rows m))
     ∙ e)
 
-pub only_21 : (m : Meter) (n : ℕ) → WithinLimits m → first_of (card_and_state_rows m) ≡ Refused n → n ≡ 21
-only_21 m n g e = (full m n g e).0
+pub only_21 : (m : Meter) (r : Refusal) → WithinLimits m → first_of (card_and_state_rows m) ≡ Err r → r ≡ CountsFull
+only_21 m r g e = (full m r g e).0
 
 -- and the rows of the sample have larger numbers
-pub sample_number : (m : Meter) (s : Sample) (n : ℕ) → first_of (sample_rows m s) ≡ Refused n → 30 ≤ n
-unfolding count_rows reading_rows range_rows limit_rows end_number
-sample_number m s n e = of_some_row (λ (k : ℕ). 30 ≤ k) (sample_rows m s) n (omega arith) e
+pub sample_number : (m : Meter) (s : Sample) (r : Refusal) → first_of (sample_rows m s) ≡ Err r → 30 ≤ number_of r
+unfolding count_rows reading_rows range_rows limit_rows end_refusal number_of
+sample_number m s r e = of_some_row (λ (k : Refusal). 30 ≤ number_of k) (sample_rows m s) r (omega arith) e
 
-pub larger : (n : ℕ) → 30 ≤ n → n ≡ 21 → ⊥
-larger n h e = omega arith
+pub larger : (r : Refusal) → 30 ≤ number_of r → number_of r ≡ 21 → ⊥
+larger r h e = omega arith
+
+-- 21 is the number of the full counts
+pub number_21 : (r : Refusal) → r ≡ CountsFull → number_of r ≡ 21
+unfolding number_of
+number_21 r e = rw e refl
 
 -- So after any calls from a fresh meter the step refuses with 21 or with a number of the sample's rows.
-by_answer : (m : Meter) (s : Sample) (a : Stepped) (n : ℕ) → Answers m s a → WithinLimits m → a.outcome ≡ Refused n → (n ≡ 21) ⊎ (30 ≤ n)
+by_answer : (m : Meter) (s : Sample) (a : Stepped) (r : Refusal) → Answers m s a → WithinLimits m → a.outcome ≡ Err r → (r ≡ CountsFull) ⊎ (30 ≤ number_of r)
 by_answer m s a n (accepts h) g e = let z : ◌≡◌ {A = ℕ} 0 1 = cc in absurd (omega arith)
 by_answer m s a n (refuses_sample k f h) g e =
     let same : k ≡ n = cc in
-    inr (subst (λ (x : ℕ). 30 ≤ x) same (sample_number m s k h))
+    inr (subst (λ (x : Refusal). 30 ≤ number_of x) same (sample_number m s k h))
 by_answer m s a n (refuses_before k f) g e =
     let same : k ≡ n = cc in
     inl (sym same ∙ only_21 m k g f)
@@ -156,8 +161,8 @@ no_other_refusal c e m h ks z calls s n f = by_answer z s (step_of z s) n (answe
 pub one_more_lem : (m : Meter) (s : Sample) (a : Stepped) → Answers m s a → WithinLimits m →
     a.meter.accepted + a.meter.refused ≡ m.accepted + m.refused + counts_of a.outcome
 one_more_lem m s a (accepts h) g = omega arith
-one_more_lem m s a (refuses_sample n e f) g = simp (ne_eqb n 21 (larger n (sample_number m s n f))) (omega arith)
-one_more_lem m s a (refuses_before n e) g = simp (eq-eqb n 21 (only_21 m n g e)) (omega arith)
+one_more_lem m s a (refuses_sample n e f) g = simp (ne_eqb (number_of n) 21 (larger n (sample_number m s n f))) (omega arith)
+one_more_lem m s a (refuses_before n e) g = simp (eq-eqb (number_of n) 21 (number_21 n (only_21 m n g e))) (omega arith)
 
 counted_along : {m z : Meter} {ks : List Mark} → WithinLimits m → (calls : Calls m ks z) → z.accepted + z.refused ≡ m.accepted + m.refused + counted_of calls
 counted_along g none = omega arith

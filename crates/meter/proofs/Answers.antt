@@ -5,8 +5,8 @@ use mathlib.Core.Bool.{true}
 use Prim.Native.Nat.{ℕ}
 use native.Mathlib.Omega.{arith}
 use Rattle.quantity.specs.Refusals.{first_of, NoneApplies}
-use Rattle.quantity.specs.declared.refusal.Outcome.{Outcome}
-use Rattle.quantity.specs.declared.refusal.Outcome.TheVariants.{Accepted, Refused}
+use Rattle.std.specs.Prelude.{Result, Ok, Err}
+use Rattle.quantity.specs.declared.refusal.Refusal.{Refusal}
 use Rattle.quantity.proofs.Rows.{none_applies, no_refusal, none_of_parts, none_together}
 use Rattle.meter.specs.Card.{card_rows}
 use Rattle.meter.specs.State.{state_rows}
@@ -26,13 +26,13 @@ no_row_refuses m s h g =
     let t = none_of_parts (range_rows m.edition m.card s) (limit_rows m s) r.1 in
     record { card = p.0; state = p.1; count = q.0; reading = r.0; range = t.0; limit = t.1 }
 
-by_sample_lem : (m : Meter) (s : Sample) (o : Outcome) → first_of (card_and_state_rows m) ≡ Accepted → first_of (sample_rows m s) ≡ o → Answers m s (by_sample m s o)
-by_sample_lem m s Accepted e f = accepts (no_row_refuses m s (none_applies (card_and_state_rows m) e) (none_applies (sample_rows m s) f))
-by_sample_lem m s (Refused n) e f = refuses_sample n e f
+by_sample_lem : (m : Meter) (s : Sample) (o : Result Unit Refusal) → first_of (card_and_state_rows m) ≡ Ok tt → first_of (sample_rows m s) ≡ o → Answers m s (by_sample m s o)
+by_sample_lem m s (Ok u) e f = accepts (no_row_refuses m s (none_applies (card_and_state_rows m) e) (none_applies (sample_rows m s) f))
+by_sample_lem m s (Err n) e f = refuses_sample n e f
 
-by_card_and_state_lem : (m : Meter) (s : Sample) (o : Outcome) → first_of (card_and_state_rows m) ≡ o → Answers m s (by_card_and_state m s o)
-by_card_and_state_lem m s Accepted e = by_sample_lem m s _ e refl
-by_card_and_state_lem m s (Refused n) e = refuses_before n e
+by_card_and_state_lem : (m : Meter) (s : Sample) (o : Result Unit Refusal) → first_of (card_and_state_rows m) ≡ o → Answers m s (by_card_and_state m s o)
+by_card_and_state_lem m s (Ok u) e = by_sample_lem m s _ e refl
+by_card_and_state_lem m s (Err n) e = refuses_before n e
 
 pub step_answers : StepAnswers
 unfolding step_of
@@ -47,7 +47,7 @@ when_accepted m s a (accepts h) e = h
 when_accepted m s a (refuses_sample n f g) e = let z : ◌≡◌ {A = ℕ} 0 1 = cc in absurd (omega arith)
 when_accepted m s a (refuses_before n f) e = let z : ◌≡◌ {A = ℕ} 0 1 = cc in absurd (omega arith)
 
-pub not_refused : (m : Meter) (s : Sample) → NoRowRefuses m s → step_of m s ≡ record { meter = accepting m s; outcome = Accepted }
+pub not_refused : (m : Meter) (s : Sample) → NoRowRefuses m s → step_of m s ≡ record { meter = accepting m s; outcome = Ok tt }
 unfolding step_of
 not_refused m s h =
     simp (

@@ -9,8 +9,9 @@ use native.Mathlib.Omega.{arith}
 use lib.Dec.{ltb}
 use borrow.Author.Tests.{ltb-true, ltb-false}
 use Rattle.quantity.specs.Refusals.{row, first_of}
-use Rattle.quantity.specs.declared.refusal.Outcome.{Outcome}
-use Rattle.quantity.specs.declared.refusal.Outcome.TheVariants.{Accepted, Refused}
+use Rattle.std.specs.Prelude.{Result, Ok, Err}
+use Rattle.quantity.specs.declared.refusal.Refusal.{Refusal}
+use Rattle.quantity.specs.declared.refusal.Refusal.TheVariants as R
 use Rattle.quantity.proofs.Rows.{none_applies, no_refusal, none_of_parts, none_together}
 use Rattle.water.specs.Table.{water}
 use Rattle.water.specs.Heat.{exact_heat}
@@ -32,7 +33,6 @@ use Rattle.meter.specs.Answers.{NoRowRefuses, Answers, accepts, refuses_sample, 
 use Rattle.meter.specs.Theorems.{RegisterBounds, FreshMade, FreshZeros, CardAlong, EditionAlong, SampleHeatIsFraction, Raises, OtherStays}
 use Rattle.meter.specs.declared.card.Card.{Card}
 use Rattle.meter.specs.declared.state.Meter.{Meter}
-use Rattle.meter.specs.declared.state.FreshMeter.{FreshMeter}
 use Rattle.meter.specs.declared.register.Register.{Register}
 use Rattle.meter.specs.declared.register.Register.TheVariants.{Heat, Cold}
 use Rattle.meter.specs.declared.sample.Sample.{Sample}
@@ -128,9 +128,9 @@ pub edition_along : EditionAlong
 edition_along m ks z calls = (stays_along calls).edition
 
 -- only the outcome of no refusal makes a meter
-by_rows : (x m : Meter) (o : Outcome) → fresh_answer o x ≡ FreshMeter.Made m → (o ≡ Accepted) × (x ≡ m)
-by_rows x m Accepted e = (refl, cc)
-by_rows x m (Refused n) e = let z : ◌≡◌ {A = ℕ} 0 1 = cc in absurd (omega arith)
+by_rows : (x m : Meter) (o : Result Unit Refusal) → fresh_answer o x ≡ Ok m → (o ≡ Ok tt) × (x ≡ m)
+by_rows x m (Ok u) e = (refl, cc)
+by_rows x m (Err n) e = let z : ◌≡◌ {A = ℕ} 0 1 = cc in absurd (omega arith)
 
 -- a fresh meter is that of an accepted card and an edition, with zeros
 pub fresh_zeros : FreshZeros
@@ -144,8 +144,8 @@ fresh_zeros c e m h =
 pub fresh_made : FreshMade
 unfolding fresh_of
 fresh_made c e h known =
-    let none_refuses = none_together (card_rows c) (row 20 (is_other_edition e) ∷ []) (none_applies (card_rows c) h) (known, tt) in
-    ap (λ (o : Outcome). fresh_answer o (zeros c e)) (no_refusal (fresh_rows c e) none_refuses)
+    let none_refuses = none_together (card_rows c) (row R.State (is_other_edition e) ∷ []) (none_applies (card_rows c) h) (known, tt) in
+    ap (λ (o : Result Unit Refusal). fresh_answer o (zeros c e)) (no_refusal (fresh_rows c e) none_refuses)
 
 pub register : RegisterBounds
 register c e m h ks z calls r =

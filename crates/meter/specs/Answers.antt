@@ -1,8 +1,8 @@
 -- The step's answer by cases, document 01, "Refusals, by the place of the check", column "Left behind". `StepAnswers` of specs/Theorems.antt
 -- says that every answer of the step is one of these.
-use Rattle.std.specs.Prelude.{◌≡◌, ℕ}
+use Rattle.std.specs.Prelude.{◌≡◌, Ok, Err}
 use Rattle.quantity.specs.Refusals.{first_of, NoneApplies}
-use Rattle.quantity.specs.declared.refusal.Outcome.TheVariants.{Accepted, Refused}
+use Rattle.quantity.specs.declared.refusal.Refusal.{Refusal}
 use Rattle.meter.specs.Card.{card_rows}
 use Rattle.meter.specs.State.{state_rows}
 use Rattle.meter.specs.Step.{count_rows, reading_rows, range_rows, limit_rows, sample_rows, accepting, refusing, card_and_state_rows}
@@ -22,6 +22,6 @@ pub record NoRowRefuses (m : Meter) (s : Sample) : Type 0 where
 -- What the step answers: it accepts exactly where no row refuses; a sample's row counts one more refused; a row of card or state leaves
 -- the meter unchanged.
 pub data Answers (m : Meter) (s : Sample) : Stepped → Type 0 where
-  accepts : NoRowRefuses m s → Answers m s (record { meter = accepting m s; outcome = Accepted })
-  refuses_sample : (n : ℕ) → first_of (card_and_state_rows m) ≡ Accepted → first_of (sample_rows m s) ≡ Refused n → Answers m s (record { meter = refusing m; outcome = Refused n })
-  refuses_before : (n : ℕ) → first_of (card_and_state_rows m) ≡ Refused n → Answers m s (record { meter = m; outcome = Refused n })
+  accepts : NoRowRefuses m s → Answers m s (record { meter = accepting m s; outcome = Ok tt })
+  refuses_sample : (r : Refusal) → first_of (card_and_state_rows m) ≡ Ok tt → first_of (sample_rows m s) ≡ Err r → Answers m s (record { meter = refusing m; outcome = Err r })
+  refuses_before : (r : Refusal) → first_of (card_and_state_rows m) ≡ Err r → Answers m s (record { meter = m; outcome = Err r })

@@ -1,6 +1,8 @@
 -- The card, document 01, "Card", and the row "Card" of the refusal table.
 use Rattle.std.specs.Prelude.{ℕ, ◌*◌, ◌^◌, List, [], ◌∷◌, not, ◌&&◌, ◌||◌, ltb, leb}
-use Rattle.quantity.specs.Refusals.{Row, row, outside}
+use Rattle.quantity.specs.Refusals.{row, outside}
+use Rattle.quantity.specs.declared.refusal.Refusal.TheVariants as R
+use Rattle.quantity.specs.declared.refusal.Row.{Row}
 use Rattle.quantity.specs.Units.{last_degree, largest_kelvins}
 use Rattle.platinum.specs.Sensor.{sensor_of, is_unknown}
 use Rattle.meter.specs.declared.card.Card.{Card}
@@ -32,13 +34,13 @@ card_fields = 12
 -- 18 Ps outside 1..10^9"
 unfoldable pub card_rows : Card → List Row
 card_rows c =
-    row 10 (outside c.serial 1 99999999)
-    ∷ row 11 (outside c.place 1 2)
-    ∷ row 12 (is_unknown (sensor_of c.sensor))
-    ∷ row 13 (outside c.ml_per_pulse 1 100000)
-    ∷ row 14 (leb c.theta_max c.theta_min || ltb last_degree c.theta_max)
-    ∷ row 15 (outside c.delta_min 1 3)
-    ∷ row 16 (ltb c.delta_max (10 * c.delta_min) || ltb largest_kelvins c.delta_max)
-    ∷ row 17 (not (leb 1 c.qi && leb c.qi c.qp && leb c.qp c.qs && leb c.qs (10 ^ 9)))
-    ∷ row 18 (outside c.ps 1 (10 ^ 9))
+    row R.Serial (outside c.serial 1 99999999)
+    ∷ row R.Place (outside c.place 1 2)
+    ∷ row R.SensorKind (is_unknown (sensor_of c.sensor))
+    ∷ row R.PulseVolume (outside c.ml_per_pulse 1 100000)
+    ∷ row R.ThetaRange (leb c.theta_max c.theta_min || ltb last_degree c.theta_max)
+    ∷ row R.DeltaMin (outside c.delta_min 1 3)
+    ∷ row R.DeltaMax (ltb c.delta_max (10 * c.delta_min) || ltb largest_kelvins c.delta_max)
+    ∷ row R.FlowRates (not (leb 1 c.qi && leb c.qi c.qp && leb c.qp c.qs && leb c.qs (10 ^ 9)))
+    ∷ row R.PowerLimit (outside c.ps 1 (10 ^ 9))
     ∷ []

@@ -1,10 +1,10 @@
 -- A sample's volume, temperatures and exact heat, document 01, "Meter's step": "A sample is pulses, seconds, supply reading, return
 -- reading. Volume u = pulses × mL per pulse. Its exact heat in mJ is 1000000×u×(H(ts)−H(tr))/V, V at the card's place." Where ts is below tr it
 -- is the exact cold, "the heat formula with the two enthalpies exchanged" (document 02, request 5).
-use Rattle.std.specs.Prelude.{ℕ, ◌*◌, List, [], ◌∷◌, Bool, ltb}
+use Rattle.std.specs.Prelude.{ℕ, ◌*◌, List, [], ◌∷◌, Bool, ltb, Result, Ok, Err}
 use Rattle.quantity.specs.declared.units.Temperature.{Temperature}
 use Rattle.platinum.specs.Temperature.{temperature_of}
-use Rattle.platinum.specs.declared.reading.Measured.{Measured}
+use Rattle.platinum.specs.declared.reading.Unmeasured.{Unmeasured}
 use Rattle.water.specs.Table.{water}
 use Rattle.quantity.specs.declared.fraction.Fraction.{Fraction}
 use Rattle.water.specs.Heat.{pair_heat}
@@ -28,10 +28,10 @@ abbrev pub has_volume : Card → Sample → Bool
 has_volume c s = ltb 0 (volume_of c s)
 
 -- what the two readings give
-abbrev pub supply_of : Card → Sample → Measured
+abbrev pub supply_of : Card → Sample → Result Temperature Unmeasured
 supply_of c s = temperature_of c.sensor s.supply_reading
 
-abbrev pub return_of : Card → Sample → Measured
+abbrev pub return_of : Card → Sample → Result Temperature Unmeasured
 return_of c s = temperature_of c.sensor s.return_reading
 
 -- A default where a reading has no temperature, so that the definitions below speak of any sample: 0 °C. No accepted sample has it:
@@ -39,10 +39,9 @@ return_of c s = temperature_of c.sensor s.return_reading
 abbrev pub missing_temperature : Temperature
 missing_temperature = record { 0 = 0 }
 
-abbrev pub temperature_or_missing : Measured → Temperature
-temperature_or_missing (Measured.At t) = t
-temperature_or_missing (Measured.Outside e) = missing_temperature
-temperature_or_missing Measured.NoSensor = missing_temperature
+abbrev pub temperature_or_missing : Result Temperature Unmeasured → Temperature
+temperature_or_missing (Ok t) = t
+temperature_or_missing (Err u) = missing_temperature
 
 -- ts and tr
 abbrev pub ts : Card → Sample → Temperature

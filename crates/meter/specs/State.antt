@@ -1,29 +1,30 @@
 -- The meter's state, document 01, "Card", and the row "State" of the refusal table, with its edition and its kept seconds (document 02,
 -- request 2), and its cold register (request 5).
-use Rattle.std.specs.Prelude.{ℕ, ◌+◌, ◌-◌, ◌*◌, ◌^◌, List, [], ◌∷◌, ◌++◌, Bool, not, ◌&&◌, ◌||◌, ltb, eqb}
-use Rattle.quantity.specs.Refusals.{Row, row, first_of}
-use Rattle.quantity.specs.declared.refusal.Outcome as O
+use Rattle.std.specs.Prelude.{ℕ, ◌+◌, ◌-◌, ◌*◌, ◌^◌, List, [], ◌∷◌, ◌++◌, Bool, not, ◌&&◌, ◌||◌, ltb, eqb, Result, Ok, Err}
+use Rattle.quantity.specs.Refusals.{row, first_of}
+use Rattle.quantity.specs.declared.refusal.Refusal.{Refusal}
+use Rattle.quantity.specs.declared.refusal.Refusal.TheVariants as R
+use Rattle.quantity.specs.declared.refusal.Row.{Row}
 use Rattle.meter.specs.Edition.{is_other_edition, keeps_seconds, counts_cold}
 use Rattle.meter.specs.Card.{card_rows}
 use Rattle.meter.specs.declared.card.Card.{Card}
 use Rattle.meter.specs.declared.state.Meter.{Meter}
-use Rattle.meter.specs.declared.state.FreshMeter.{FreshMeter}
 
 -- "A fresh meter has an accepted card and zeros in heat register (mJ), volume (mL), accepted count and refused count." Its kept seconds, of
 -- accepted samples above q_s, and its cold register are zero too.
 abbrev pub zeros : Card → ℕ → Meter
 zeros c e = record { card = c; edition = e; register = 0; volume = 0; accepted = 0; refused = 0; kept_seconds = 0; cold_register = 0 }
 
-abbrev pub fresh_answer : O.Outcome → Meter → FreshMeter
-fresh_answer (O.Outcome.Refused n) m = FreshMeter.Refused n
-fresh_answer O.Outcome.Accepted m = FreshMeter.Made m
+abbrev pub fresh_answer : Result Unit Refusal → Meter → Result Meter Refusal
+fresh_answer (Err r) m = Err r
+fresh_answer (Ok u) m = Ok m
 
 -- the card's rows, then "A fresh meter [..] of another edition [..] is met by 20"
 abbrev pub fresh_rows : Card → ℕ → List Row
-fresh_rows c e = card_rows c ++ (row 20 (is_other_edition e) ∷ [])
+fresh_rows c e = card_rows c ++ (row R.State (is_other_edition e) ∷ [])
 
 -- the fresh meter of a card in an edition, or the first row's refusal
-unfoldable pub fresh_of : Card → ℕ → FreshMeter
+unfoldable pub fresh_of : Card → ℕ → Result Meter Refusal
 fresh_of c e = fresh_answer (first_of (fresh_rows c e)) (zeros c e)
 
 -- the limits of 20 and 21
@@ -60,4 +61,4 @@ misfits_edition m =
 
 -- "20 ..; 21 the counts together are 10^12"
 unfoldable pub state_rows : Meter → List Row
-state_rows m = row 20 (passes_limit m || misfits_edition m) ∷ row 21 (eqb (m.accepted + m.refused) largest_count) ∷ []
+state_rows m = row R.State (passes_limit m || misfits_edition m) ∷ row R.CountsFull (eqb (m.accepted + m.refused) largest_count) ∷ []

@@ -1,13 +1,12 @@
 -- What is proved of the meter, statement by statement, demand 3 first. Each is proved in proofs/ under its name in small letters (`register` is
 -- `RegisterBounds`).
-use Rattle.std.specs.Prelude.{◌≡◌, List, [], ◌∷◌, ◌++◌, true, false, cond, ◌↔◌, ◌⊎◌, ℕ, ◌+◌, ◌*◌, ◌≤◌, ◌<◌, eqb}
+use Rattle.std.specs.Prelude.{◌≡◌, List, [], ◌∷◌, ◌++◌, true, false, cond, ◌↔◌, ◌⊎◌, ℕ, ◌+◌, ◌*◌, ◌≤◌, ◌<◌, eqb, Result, Ok, Err}
 use Rattle.quantity.specs.Fractions.{IsFraction}
 use Rattle.quantity.specs.Units.{is_colder}
-use Rattle.quantity.specs.Refusals.{first_of, NoneApplies}
+use Rattle.quantity.specs.Refusals.{number_of, first_of, NoneApplies}
 use Rattle.quantity.specs.declared.units.Temperature.{Temperature}
-use Rattle.quantity.specs.declared.refusal.Outcome.{Outcome}
-use Rattle.quantity.specs.declared.refusal.Outcome.TheVariants.{Accepted, Refused}
-use Rattle.platinum.specs.declared.reading.Measured.TheVariants.{At}
+use Rattle.quantity.specs.declared.refusal.Refusal.{Refusal}
+use Rattle.quantity.specs.declared.refusal.Refusal.TheVariants.{CountsFull}
 use Rattle.meter.specs.Edition.{is_other_edition, keeps_seconds, counts_cold}
 use Rattle.meter.specs.Card.{card_rows}
 use Rattle.meter.specs.State.{fresh_of, zeros, largest_register, largest_volume, largest_count, most_seconds}
@@ -20,7 +19,6 @@ use Rattle.meter.specs.Run.{samples_of, marks_of, last_of}
 use Rattle.meter.specs.Answers.{NoRowRefuses, Answers}
 use Rattle.meter.specs.declared.card.Card.{Card}
 use Rattle.meter.specs.declared.state.Meter.{Meter}
-use Rattle.meter.specs.declared.state.FreshMeter.{FreshMeter}
 use Rattle.meter.specs.declared.register.Register.{Register}
 use Rattle.meter.specs.declared.register.Register.TheVariants.{Heat}
 use Rattle.meter.specs.declared.sample.Sample.{Sample}
@@ -33,7 +31,7 @@ use Rattle.meter.specs.declared.stepping.Stepped.{Stepped}
 -- has its own two bounds, the millijoules counting its own samples only" (request 5).
 abbrev pub RegisterBounds : Type 0
 RegisterBounds =
-    (c : Card) (e : ℕ) (m : Meter) → fresh_of c e ≡ FreshMeter.Made m → (ks : List Mark) (z : Meter) → Calls m ks z → (r : Register) →
+    (c : Card) (e : ℕ) (m : Meter) → fresh_of c e ≡ Ok m → (ks : List Mark) (z : Meter) → Calls m ks z → (r : Register) →
     WithinBounds (register_of r z) (allowance_of r c ks) (sum_of r c ks)
 
 -- every accepted sample is exactly one register's own
@@ -66,15 +64,15 @@ OnlyLast = (m : Meter) (ks : List Mark) (z : Meter) → Calls m ks z → z ≡ l
 
 -- Every accepted card has a fresh meter in each edition, and a fresh meter is that of an accepted card and an edition, with zeros.
 abbrev pub FreshMade : Type 0
-FreshMade = (c : Card) (e : ℕ) → first_of (card_rows c) ≡ Accepted → is_other_edition e ≡ false → fresh_of c e ≡ FreshMeter.Made (zeros c e)
+FreshMade = (c : Card) (e : ℕ) → first_of (card_rows c) ≡ Ok tt → is_other_edition e ≡ false → fresh_of c e ≡ Ok (zeros c e)
 
 pub record IsFresh (c : Card) (e : ℕ) (m : Meter) : Type 0 where
-  pub card : first_of (card_rows c) ≡ Accepted
+  pub card : first_of (card_rows c) ≡ Ok tt
   pub edition : is_other_edition e ≡ false
   pub meter : zeros c e ≡ m
 
 abbrev pub FreshZeros : Type 0
-FreshZeros = (c : Card) (e : ℕ) (m : Meter) → fresh_of c e ≡ FreshMeter.Made m → IsFresh c e m
+FreshZeros = (c : Card) (e : ℕ) (m : Meter) → fresh_of c e ≡ Ok m → IsFresh c e m
 
 -- card and edition never change along the calls
 abbrev pub CardAlong : Type 0
@@ -89,8 +87,8 @@ SampleHeatIsFraction = (c : Card) (s : Sample) → IsFraction (sample_heat c s)
 
 -- but no such sample is accepted: both readings of one that `reading_rows` do not refuse have a temperature
 pub record HasTemperatures (c : Card) (s : Sample) : Type 0 where
-  pub supply : (t : Temperature) × (supply_of c s ≡ At t)
-  pub returned : (t : Temperature) × (return_of c s ≡ At t)
+  pub supply : (t : Temperature) × (supply_of c s ≡ Ok t)
+  pub returned : (t : Temperature) × (return_of c s ≡ Ok t)
 
 abbrev pub AcceptedHasTemperatures : Type 0
 AcceptedHasTemperatures = (c : Card) (s : Sample) → NoneApplies (reading_rows c s) → HasTemperatures c s
@@ -122,7 +120,7 @@ pub record LackedZero (e : ℕ) (m : Meter) : Type 0 where
 
 -- a meter whose card is accepted and that row 20 does not refuse
 pub record WithinLimits (m : Meter) : Type 0 where
-  pub card : first_of (card_rows m.card) ≡ Accepted
+  pub card : first_of (card_rows m.card) ≡ Ok tt
   pub registers : (r : Register) → register_of r m ≤ largest_register
   pub volume : m.volume ≤ largest_volume
   pub counts : m.accepted + m.refused ≤ largest_count
@@ -134,23 +132,23 @@ pub record WithinLimits (m : Meter) : Type 0 where
 -- count
 abbrev pub StaysWithinLimits : Type 0
 StaysWithinLimits =
-    (c : Card) (e : ℕ) (m : Meter) → fresh_of c e ≡ FreshMeter.Made m → (ks : List Mark) (z : Meter) → Calls m ks z → WithinLimits z
+    (c : Card) (e : ℕ) (m : Meter) → fresh_of c e ≡ Ok m → (ks : List Mark) (z : Meter) → Calls m ks z → WithinLimits z
 
 -- and what an edition lacks stays zero along the calls from its fresh meter
 abbrev pub LackedStaysZero : Type 0
 LackedStaysZero =
-    (c : Card) (e : ℕ) (m : Meter) → fresh_of c e ≡ FreshMeter.Made m → (ks : List Mark) (z : Meter) → Calls m ks z → LackedZero e z
+    (c : Card) (e : ℕ) (m : Meter) → fresh_of c e ≡ Ok m → (ks : List Mark) (z : Meter) → Calls m ks z → LackedZero e z
 
 -- so after any calls from a fresh meter the step refuses with 21 or with a number from 30 on, which only the sample's rows have
 abbrev pub NoOtherRefusal : Type 0
 NoOtherRefusal =
-    (c : Card) (e : ℕ) (m : Meter) → fresh_of c e ≡ FreshMeter.Made m → (ks : List Mark) (z : Meter) → Calls m ks z →
-    (s : Sample) (n : ℕ) → (step_of z s).outcome ≡ Refused n → (n ≡ 21) ⊎ (30 ≤ n)
+    (c : Card) (e : ℕ) (m : Meter) → fresh_of c e ≡ Ok m → (ks : List Mark) (z : Meter) → Calls m ks z →
+    (s : Sample) (r : Refusal) → (step_of z s).outcome ≡ Err r → (r ≡ CountsFull) ⊎ (30 ≤ number_of r)
 
 -- how many of the calls were not refused by 21
-abbrev pub counts_of : Outcome → ℕ
-counts_of Accepted = 1
-counts_of (Refused n) = cond (eqb n 21) 0 1
+abbrev pub counts_of : Result Unit Refusal → ℕ
+counts_of (Ok u) = 1
+counts_of (Err r) = cond (eqb (number_of r) 21) 0 1
 
 abbrev pub counted_of : {m z : Meter} {ks : List Mark} → Calls m ks z → ℕ
 counted_of none = 0
@@ -159,7 +157,7 @@ counted_of (step s a p rest) = counts_of a.outcome + counted_of rest
 -- accepted plus refused is that number
 abbrev pub Counted : Type 0
 Counted =
-    (c : Card) (e : ℕ) (m : Meter) → fresh_of c e ≡ FreshMeter.Made m → (ks : List Mark) (z : Meter) (calls : Calls m ks z) →
+    (c : Card) (e : ℕ) (m : Meter) → fresh_of c e ≡ Ok m → (ks : List Mark) (z : Meter) (calls : Calls m ks z) →
     z.accepted + z.refused ≡ counted_of calls
 
 -- an edition that keeps no seconds accepts no sample above q_s, whatever the meter
@@ -176,7 +174,7 @@ AcceptedHeat =
 -- out, and the cold register's is 0 (`OtherNothing`)
 abbrev pub HeatOnly : Type 0
 HeatOnly =
-    (c : Card) (e : ℕ) (m : Meter) → fresh_of c e ≡ FreshMeter.Made m → counts_cold e ≡ false → (ks : List Mark) (z : Meter) → Calls m ks z → AllOwn Heat c ks
+    (c : Card) (e : ℕ) (m : Meter) → fresh_of c e ≡ Ok m → counts_cold e ≡ false → (ks : List Mark) (z : Meter) → Calls m ks z → AllOwn Heat c ks
 
 -- the seconds of the accepted samples above q_s
 abbrev pub kept_in : Card → List Mark → ℕ
@@ -186,7 +184,7 @@ kept_in c (k ∷ ks) = cond k.accepted (kept_of c k.sample) 0 + kept_in c ks
 -- those are the kept seconds
 abbrev pub KeptSeconds : Type 0
 KeptSeconds =
-    (c : Card) (e : ℕ) (m : Meter) → fresh_of c e ≡ FreshMeter.Made m → (ks : List Mark) (z : Meter) → Calls m ks z → z.kept_seconds ≡ kept_in c ks
+    (c : Card) (e : ℕ) (m : Meter) → fresh_of c e ≡ Ok m → (ks : List Mark) (z : Meter) → Calls m ks z → z.kept_seconds ≡ kept_in c ks
 
 -- a meter's state under an edition's number, with this in the cold register
 abbrev pub under_edition : ℕ → ℕ → Meter → Meter
@@ -217,7 +215,7 @@ abbrev pub with_edition : ℕ → Meter → Meter
 with_edition e m = under_edition e m.cold_register m
 
 -- the first of a sample's rows that are tried before its heat, 30 to 39, in an edition
-abbrev pub before_heat : ℕ → Card → Sample → Outcome
+abbrev pub before_heat : ℕ → Card → Sample → Result Unit Refusal
 before_heat e c s = first_of (count_rows c s ++ (reading_rows c s ++ range_rows e c s))
 
 -- two editions take a sample alike: it is the same in both
@@ -241,5 +239,5 @@ EditionsAgree =
 -- and where the runs of two editions from the fresh meters of a card accept and refuse the same samples, they end alike but for the edition
 abbrev pub SameMarksAgree : Type 0
 SameMarksAgree =
-    (c : Card) (e f : ℕ) (m n : Meter) → fresh_of c e ≡ FreshMeter.Made m → fresh_of c f ≡ FreshMeter.Made n → (ss : List Sample) →
+    (c : Card) (e f : ℕ) (m n : Meter) → fresh_of c e ≡ Ok m → fresh_of c f ≡ Ok n → (ss : List Sample) →
     marks_of m ss ≡ marks_of n ss → with_edition f (last_of m ss) ≡ last_of n ss

@@ -2,16 +2,16 @@
 ghost use Rattle.std.specs.Prelude.{◌≡◌, not, ◌&&◌, ◌||◌, ◌*◌, ◌^◌, ltb, leb};
 ghost use Rattle.quantity.specs.Refusals.{first_of};
 ghost use Rattle.quantity.specs.Units.{last_degree, largest_kelvins};
-ghost use Rattle.platinum.specs.Sensor.{sensor_of, is_unknown};
 ghost use Rattle.meter.specs.Card.{fields_of, card_rows};
 
-use platinum::{Sensor, SensorField};
-use quantity::{LARGEST_KELVINS, LAST_DEGREE, Outcome, is_outside};
+use platinum::Sensor;
+use quantity::{LARGEST_KELVINS, LAST_DEGREE, Refusal, first_refusal, is_outside};
 
 // How many fields a card has.
 pub const CARD_FIELDS: usize = 12;
 
-// What is fixed about a meter when it is built in, in document 01's order. Any content can stand here.
+// What is fixed about a meter when it is built in, in document 01's order. Any content can stand here, the place and the sensor too: enums
+// for these two would ask more of callers, and rows 11 and 12 are what refuses other numbers.
 #[derive(Clone, Copy, Debug, PartialEq, Eq)]
 pub struct Card {
     pub serial: u64,
@@ -88,53 +88,40 @@ impl From<Card> for [u64; CARD_FIELDS] {
 }
 
 impl Card {
-    pub fn from_fields(f: [u64; CARD_FIELDS]) -> Card
-        ensures { fields_of result ≡ f }
-    {
-        Card::from(f)
-    }
-
     // The card's rows, 10 to 18.
-    pub fn refusal(self) -> Outcome
+    #[tactic(auto, unfolding(crate::specs::Card::card_rows))]
+    pub fn refusal(self) -> Result<(), Refusal>
         ensures { result ≡ first_of (card_rows self) }
     {
-        let r = Outcome::Accepted.or_row(is_outside(self.serial, 1, 99999999), 10);
-        let r = r.or_row(is_outside(self.place, 1, 2), 11);
-        let r = r.or_row(is_no_sensor(self.sensor), 12);
-        let r = r.or_row(is_outside(self.ml_per_pulse, 1, 100000), 13);
-        let r = r.or_row(is_theta_refused(self.theta_min, self.theta_max), 14);
-        let r = r.or_row(is_outside(self.delta_min, 1, 3), 15);
-        let r = r.or_row(is_delta_max_refused(self.delta_min, self.delta_max), 16);
-        let r = r.or_row(are_flows_refused(self.qi, self.qp, self.qs), 17);
-        r.or_row(is_outside(self.ps, 1, 1000000000), 18)
+        first_refusal(&[
+            Refusal::Serial.when(is_outside(self.serial, 1, 99999999)),
+            Refusal::Place.when(is_outside(self.place, 1, 2)),
+            Refusal::SensorKind.when(Sensor::try_from(self.sensor).is_err()),
+            Refusal::PulseVolume.when(is_outside(self.ml_per_pulse, 1, 100000)),
+            Refusal::ThetaRange.when(self.is_theta_refused()),
+            Refusal::DeltaMin.when(is_outside(self.delta_min, 1, 3)),
+            Refusal::DeltaMax.when(self.is_delta_max_refused()),
+            Refusal::FlowRates.when(self.are_flows_refused()),
+            Refusal::PowerLimit.when(is_outside(self.ps, 1, 1000000000)),
+        ])
     }
-}
 
-fn is_no_sensor(field: u64) -> bool
-    ensures { result ≡ is_unknown (sensor_of field) }
-{
-    let kind = Sensor::from_field(field);
-    match kind {
-        SensorField::Kind(_) => false,
-        SensorField::Unknown => true,
+    fn is_theta_refused(self) -> bool
+        ensures { result ≡ (leb self.theta_max self.theta_min || ltb last_degree self.theta_max) }
+    {
+        self.theta_max <= self.theta_min || LAST_DEGREE < self.theta_max
     }
-}
 
-fn is_theta_refused(min: u64, max: u64) -> bool
-    ensures { result ≡ (leb max min || ltb last_degree max) }
-{
-    max <= min || LAST_DEGREE < max
-}
+    // Ten times the least difference can pass 64 bits, so the largest one is divided instead.
+    fn is_delta_max_refused(self) -> bool
+        ensures { result ≡ (ltb self.delta_max (10 * self.delta_min) || ltb largest_kelvins self.delta_max) }
+    {
+        self.delta_max / 10 < self.delta_min || LARGEST_KELVINS < self.delta_max
+    }
 
-// Ten times the least difference can pass 64 bits, so the largest one is divided instead.
-fn is_delta_max_refused(min: u64, max: u64) -> bool
-    ensures { result ≡ (ltb max (10 * min) || ltb largest_kelvins max) }
-{
-    max / 10 < min || LARGEST_KELVINS < max
-}
-
-fn are_flows_refused(qi: u64, qp: u64, qs: u64) -> bool
-    ensures { result ≡ not (leb 1 qi && leb qi qp && leb qp qs && leb qs (10 ^ 9)) }
-{
-    !(1 <= qi && qi <= qp && qp <= qs && qs <= 1000000000)
+    fn are_flows_refused(self) -> bool
+        ensures { result ≡ not (leb 1 self.qi && leb self.qi self.qp && leb self.qp self.qs && leb self.qs (10 ^ 9)) }
+    {
+        !(1 <= self.qi && self.qi <= self.qp && self.qp <= self.qs && self.qs <= 1000000000)
+    }
 }

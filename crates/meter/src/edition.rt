@@ -4,7 +4,8 @@ ghost use Rattle.meter.specs.Edition.{is_other_edition, keeps_seconds, counts_co
 
 use quantity::is_outside;
 
-// The editions are 1 and those up to this one.
+// The editions are 1 and those up to this one. Kept as numbers: an enum with TryFrom is no plainer, since a meter holds any number, which row
+// 20 refuses, and each use is one comparison.
 pub const LAST_EDITION: u64 = 3;
 
 // Whether a number is no edition's.

@@ -4,14 +4,20 @@
 
 mod card;
 mod edition;
+mod fresh_meter;
+mod limits;
+mod measurement;
+mod ranges;
 mod register;
 mod sample;
 mod state;
 mod stepping;
+mod usable;
 
 pub use card::{CARD_FIELDS, Card};
 pub use edition::{LAST_EDITION, counts_cold, is_other_edition, keeps_seconds};
+pub use fresh_meter::fresh;
 pub use register::Register;
 pub use sample::{SAMPLE_FIELDS, Sample};
-pub use state::{FreshMeter, Meter, fresh};
+pub use state::Meter;
 pub use stepping::{Stepped, step};

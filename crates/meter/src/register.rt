@@ -12,23 +12,27 @@ pub enum Register {
     Cold,
 }
 
-// The register whose own a sample of these two temperatures is.
-pub(crate) fn register_by(supply: Temperature, returned: Temperature) -> Register
-    ensures { result ≡ register_by supply returned }
-{
-    if supply.is_below(returned) {
-        Register::Cold
-    } else {
-        Register::Heat
+impl Register {
+    // The register whose own a sample of these two temperatures is.
+    pub(crate) fn by(supply: Temperature, returned: Temperature) -> Register
+        ensures { result ≡ register_by supply returned }
+    {
+        if supply < returned {
+            Register::Cold
+        } else {
+            Register::Heat
+        }
     }
 }
 
-// What stands in a register of a meter, in mJ.
-pub(crate) fn register_of(register: Register, m: Meter) -> u64
-    ensures { result ≡ register_of register m }
-{
-    match register {
-        Register::Heat => m.register,
-        Register::Cold => m.cold_register,
+impl Meter {
+    // What stands in a register, in mJ.
+    pub(crate) fn register_of(self, register: Register) -> u64
+        ensures { result ≡ register_of register self }
+    {
+        match register {
+            Register::Heat => self.register,
+            Register::Cold => self.cold_register,
+        }
     }
 }

@@ -1,12 +1,12 @@
-// The state of a meter (document 01, "Card"; document 02, requests 2 and 5), its fresh start and its refusals.
-ghost use Rattle.std.specs.Prelude.{◌≡◌, not, ◌&&◌, ◌||◌, ltb};
+// The state of a meter (document 01, "Card"; document 02, requests 2 and 5) and its refusals.
+ghost use Rattle.std.specs.Prelude.{◌≡◌, ◌||◌};
 ghost use Rattle.quantity.specs.Refusals.{first_of};
 ghost use Rattle.meter.specs.Step.{card_and_state_rows};
-ghost use Rattle.meter.specs.State.{fresh_rows, fresh_of, state_rows, passes_limit_by, misfits_edition};
+ghost use Rattle.meter.specs.State.{state_rows, passes_limit_by, misfits_edition};
 
 use crate::card::Card;
 use crate::edition::{counts_cold, is_other_edition, keeps_seconds};
-use quantity::Outcome;
+use quantity::{Refusal, first_refusal};
 
 // The limits of rows 20 and 21.
 pub(crate) const LARGEST_REGISTER: u64 = 999999999999999999;
@@ -33,93 +33,53 @@ pub struct Meter {
     pub cold_register: u64,
 }
 
-// A fresh meter, or the refusal of its card or its edition.
-#[derive(Clone, Copy)]
-pub enum FreshMeter {
-    Made(Meter),
-    Refused(u64),
-}
-
-// The fresh meter of an accepted card in an edition: zeros.
-#[tactic(auto, unfolding(crate::specs::State::fresh_of))]
-pub fn fresh(card: Card, edition: u64) -> FreshMeter
-    ensures { result ≡ fresh_of card edition }
-{
-    let refusal = fresh_refusal(card, edition);
-    match refusal {
-        Outcome::Accepted => FreshMeter::Made(Meter {
-            card: card,
-            edition: edition,
-            register: 0,
-            volume: 0,
-            accepted: 0,
-            refused: 0,
-            kept_seconds: 0,
-            cold_register: 0,
-        }),
-        Outcome::Refused(number) => FreshMeter::Refused(number),
+impl Meter {
+    // The rows of card and state, which come before those of a sample.
+    #[tactic(auto, using(quantity::proofs::Rows::parts))]
+    pub(crate) fn refusal(self) -> Result<(), Refusal>
+        ensures { result ≡ first_of (card_and_state_rows self) }
+    {
+        self.card.refusal()?;
+        self.state_refusal()
     }
-}
 
-// The card's rows, then 20 for another edition.
-#[tactic(auto, using(quantity::proofs::Rows::parts))]
-fn fresh_refusal(card: Card, edition: u64) -> Outcome
-    ensures { result ≡ first_of (fresh_rows card edition) }
-{
-    let refusal = card.refusal();
-    match refusal {
-        Outcome::Accepted => Outcome::Accepted.or_row(is_other_edition(edition), 20),
-        Outcome::Refused(number) => Outcome::Refused(number),
+    // Rows 20 and 21. The sum of the two counts can pass 64 bits: it is capped there, far above its limit.
+    fn state_refusal(self) -> Result<(), Refusal>
+        ensures { result ≡ first_of (state_rows self) }
+    {
+        let count = self.accepted.saturating_add(self.refused);
+        first_refusal(&[
+            Refusal::State.when(self.is_refused(count)),
+            Refusal::CountsFull.when(count == LARGEST_COUNT),
+        ])
     }
-}
 
-// The rows of card and state, which come before those of a sample.
-#[tactic(auto, using(quantity::proofs::Rows::parts))]
-pub(crate) fn card_and_state_refusal(m: Meter) -> Outcome
-    ensures { result ≡ first_of (card_and_state_rows m) }
-{
-    let card = m.card;
-    let refusal = card.refusal();
-    match refusal {
-        Outcome::Accepted => state_refusal(m),
-        Outcome::Refused(number) => Outcome::Refused(number),
+    // Whether row 20 meets the meter, its two counts being count together.
+    fn is_refused(self, count: u64) -> bool
+        ensures { result ≡ (passes_limit_by self count || misfits_edition self) }
+    {
+        self.passes_a_limit(count) || self.misfits_edition()
     }
-}
 
-// Rows 20 and 21. The sum of the two counts can pass 64 bits: it is capped there, far above its limit.
-fn state_refusal(m: Meter) -> Outcome
-    ensures { result ≡ first_of (state_rows m) }
-{
-    let count = m.accepted.saturating_add(m.refused);
-    let r = Outcome::Accepted.or_row(is_state_refused(m, count), 20);
-    r.or_row(count == LARGEST_COUNT, 21)
-}
+    fn passes_a_limit(self, count: u64) -> bool
+        ensures { result ≡ passes_limit_by self count }
+    {
+        LARGEST_REGISTER < self.register
+            || LARGEST_REGISTER < self.cold_register
+            || LARGEST_VOLUME < self.volume
+            || LARGEST_COUNT < count
+    }
 
-// Whether row 20 meets the meter, its two counts being count together.
-fn is_state_refused(m: Meter, count: u64) -> bool
-    ensures { result ≡ (passes_limit_by m count || misfits_edition m) }
-{
-    passes_a_limit(m, count) || misfits_edition(m)
-}
-
-// Another edition, kept seconds that cannot be, or a number in a field that the edition lacks. The limit of the kept seconds is compared in
-// full: the product can pass 64 bits.
-fn misfits_edition(m: Meter) -> bool
-    ensures { result ≡ misfits_edition m }
-{
-    let edition = m.edition;
-    let kept = m.kept_seconds;
-    is_other_edition(edition)
-        || m.accepted.saturating_mul(MOST_SECONDS) < kept
-        || (!keeps_seconds(edition) && 0 < kept)
-        || (!counts_cold(edition) && 0 < m.cold_register)
-}
-
-fn passes_a_limit(m: Meter, count: u64) -> bool
-    ensures { result ≡ passes_limit_by m count }
-{
-    LARGEST_REGISTER < m.register
-        || LARGEST_REGISTER < m.cold_register
-        || LARGEST_VOLUME < m.volume
-        || LARGEST_COUNT < count
+    // Another edition, kept seconds that cannot be, or a number in a field that the edition lacks. The limit of the kept seconds can pass 64
+    // bits: capped there, it is not below any.
+    fn misfits_edition(self) -> bool
+        ensures { result ≡ misfits_edition self }
+    {
+        let edition = self.edition;
+        let kept = self.kept_seconds;
+        is_other_edition(edition)
+            || self.accepted.saturating_mul(MOST_SECONDS) < kept
+            || (!keeps_seconds(edition) && 0 < kept)
+            || (!counts_cold(edition) && 0 < self.cold_register)
+    }
 }

@@ -1,0 +1,102 @@
+// A sample of a meter with its volume and its temperatures, and what it gives (document 01, "Meter's step" and the row "Sample").
+ghost use Rattle.std.specs.Prelude.{◌≡◌, ◌++◌, IfOk, Ok};
+ghost use Rattle.std.specs.Result.{result_and};
+ghost use Rattle.quantity.specs.Fractions.{floored};
+ghost use Rattle.quantity.specs.Refusals.{first_of};
+ghost use Rattle.platinum.specs.Temperature.{temperature_of};
+ghost use Rattle.platinum.specs.Refusal.{end_rows};
+ghost use Rattle.meter.specs.Sample.{temperature_or_missing, volume_of, ts, tr, sample_heat};
+ghost use Rattle.meter.specs.Register.{own_register};
+ghost use Rattle.meter.specs.Step.{count_rows, reading_rows, is_above_qs, kept_of};
+ghost use Rattle.meter.specs.Inside.Stages.{AcceptedCounts};
+
+use crate::card::Card;
+use crate::register::Register;
+use crate::sample::Sample;
+use crate::usable::Usable;
+use quantity::{Position, Refusal, Temperature};
+
+// A sample of a meter, with its volume and its two temperatures. No row of its counts refuses it, so that its numbers are small and their
+// products fit.
+#[derive(Clone, Copy)]
+pub(crate) struct Measurement {
+    pub(crate) usable: Usable,
+    pub(crate) sample: Sample,
+    pub(crate) volume: u64,
+    pub(crate) supply: Temperature,
+    pub(crate) returned: Temperature,
+    ghost count_bounds: { AcceptedCounts usable.meter.card sample },
+    ghost volume_is: { volume ≡ volume_of usable.meter.card sample },
+    ghost supply_is: { supply ≡ ts usable.meter.card sample },
+    ghost returned_is: { returned ≡ tr usable.meter.card sample },
+}
+
+impl Measurement {
+    // Rows 30 and 31, then those of the readings: 32 and 70 of the supply, 33 and 71 of the return.
+    #[tactic(auto, using(crate::proofs::Stages::counts_and_readings, crate::proofs::Stages::counts_pass), unfolding(crate::specs::Sample::volume_of))]
+    pub(crate) fn of(usable: Usable, sample: Sample) -> Result<Measurement, Refusal>
+        ensures rows { result_and result (Ok tt) ≡ first_of (count_rows usable.meter.card sample ++ reading_rows usable.meter.card sample) }
+        ensures parts { IfOk result (λ x. (x.usable.meter ≡ usable.meter) × (x.sample ≡ sample)) }
+    {
+        let card = usable.meter.card;
+        sample.count_refusal(card)?;
+        let supply = temperature(Position::Supply, card, sample.supply_reading)?;
+        let returned = temperature(Position::Return, card, sample.return_reading)?;
+        Ok(Measurement {
+            usable,
+            sample,
+            volume: sample.pulses * card.ml_per_pulse,
+            supply,
+            returned,
+        })
+    }
+
+    // Whether the volume flowed above q_s: exactly at q_s it did not.
+    #[tactic(auto, unfolding(crate::specs::Step::is_above_qs))]
+    pub(crate) fn is_above_qs(self) -> bool
+        ensures { result ≡ is_above_qs self.usable.meter.card self.sample }
+    {
+        self.usable.meter.card.qs * self.sample.seconds < self.volume * 3600
+    }
+
+    // The seconds that the meter keeps of the sample, where it is accepted.
+    #[tactic(auto, unfolding(crate::specs::Step::kept_of))]
+    pub(crate) fn kept_seconds(self) -> u64
+        ensures { result ≡ kept_of self.usable.meter.card self.sample }
+    {
+        if self.is_above_qs() {
+            self.sample.seconds
+        } else {
+            0
+        }
+    }
+
+    // The register whose own the sample is.
+    pub(crate) fn own_register(self) -> Register
+        ensures { result ≡ own_register self.usable.meter.card self.sample }
+    {
+        Register::by(self.supply, self.returned)
+    }
+
+    // The floored heat or cold in mJ. Of such a sample the water's operation refuses nothing.
+    #[tactic(auto, using(crate::proofs::Heats::of_sample))]
+    pub(crate) fn heat(self) -> Result<u64, Refusal>
+        ensures { result ≡ Ok (floored (sample_heat self.usable.meter.card self.sample)) }
+    {
+        water::heat(
+            self.volume,
+            self.supply,
+            self.returned,
+            self.usable.meter.card.place,
+        )
+    }
+}
+
+// The temperature of a reading, or the refusal of one that has none.
+#[tactic(auto, unfolding(quantity::specs::Refusals::first_of))]
+fn temperature(position: Position, card: Card, reading: u64) -> Result<Temperature, Refusal>
+    ensures rows { result_and result (Ok tt) ≡ first_of (end_rows position (temperature_of card.sensor reading)) }
+    ensures value { IfOk result (λ t. t ≡ temperature_or_missing (temperature_of card.sensor reading)) }
+{
+    platinum::temperature(card.sensor, reading).map_err(|u| u.end_refusal(position))
+}
