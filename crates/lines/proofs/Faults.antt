@@ -3,79 +3,103 @@
 use mathlib.Core.Path.{◌≡◌, refl, sym, ap, ◌∙◌}
 use mathlib.Core.Bool.{Bool, true, false, cond, not, ◌||◌, or-true}
 use mathlib.Core.List.{List, [], ◌∷◌}
-use Prim.Native.Nat.{ℕ, ◌+◌, ◌≤◌, ◌<◌}
+use Prim.Native.Nat.{ℕ, suc, ◌+◌, ◌≤◌, ◌<◌}
 use native.Mathlib.Omega.{arith}
 use native.Mathlib.Numerals.{add-one}
-use lib.Dec.{eqb}
-use lib.ListN.{length, get_or, drop, drop_of_length-le}
+use lib.Dec.{eqb, ltb}
+use Rattle.std.proofs.Common.{Some, None}
+use Rattle.std.specs.Option.{option_eq}
+use Rattle.std.proofs.lemmas.List.Recursion.{is_count_by}
+use Rattle.quantity.proofs.Comparing.{same_order}
+use Rattle.std.specs.List.{position, position_or_len, count_by}
+use lib.ListN.{length, get_or, take, drop}
 use lib.Seq.{drop-cons}
-use borrow.Author.Tests.{eq-eqb, ne_eqb, eqb-true, eqb-false}
+use borrow.Author.Tests.{lt-ltb, eq-eqb, ne_eqb}
 use Rattle.quantity.specs.Refusals.{row, first_of}
 use Rattle.quantity.specs.declared.refusal.Outcome.{Outcome}
 use Rattle.quantity.specs.declared.refusal.Outcome.TheVariants.{Accepted, Refused}
-use Rattle.quantity.proofs.Comparing.{same_equal}
 use Rattle.lines.specs.Bytes.{line_feed, comma}
 use Rattle.lines.specs.Number.{some_long}
 use Rattle.lines.specs.Reading.{is_same, until_end, is_ended, size_of, with_first, split, fields_in, first_in, others_in, are_numbers, numbers_in, is_misshapen, shape_rows}
-use Rattle.lines.specs.Inside.Parts.{Lettered}
 use Rattle.lines.proofs.Splitting.{Parted, parted, split_parted, length_parted}
 use Rattle.lines.proofs.Shape.{line_bytes, shape_forth}
 
--- ---- the count of fields
+-- ---- the commas before the line's end
 
--- k fields so far, of which the last goes on here
-pub fields_from : ℕ → List ℕ → ℕ
-fields_from k [] = 0
-fields_from k (b ∷ bs) = cond (eqb b line_feed) k (fields_from (cond (eqb b comma) (k + 1) k) bs)
+-- where the bytes end, and whether they do
+ends_at : (bs : List ℕ) → position_or_len (λ b. eqb b line_feed) bs ≡ length (until_end bs)
+unfolding until_end
+ends_at [] = refl
+ends_at (b ∷ bs) =
+    elim (eqb b line_feed) as (λ t. eqb b line_feed ≡ t → position_or_len (λ x. eqb x line_feed) (b ∷ bs) ≡ length (until_end (b ∷ bs))) [
+      | true ↦ λ e. simp e
+      | false ↦ λ e. simp (e, ends_at bs) (omega arith)
+    ] refl
 
-others_first : (b : ℕ) (l : List (List ℕ)) → Parted l → drop 1 (with_first b l) ≡ drop 1 l
+ended_is : (bs : List ℕ) → ltb (length (until_end bs)) (length bs) ≡ is_ended bs
+unfolding until_end is_ended
+ended_is [] = refl
+ended_is (b ∷ bs) =
+    elim (eqb b line_feed) as (λ t. eqb b line_feed ≡ t → ltb (length (until_end (b ∷ bs))) (length (b ∷ bs)) ≡ is_ended (b ∷ bs)) [
+      | true ↦ λ e. simp e (lt-ltb 0 (suc (length bs)) (omega arith))
+      | false ↦ λ e. simp e (same_order (suc (length (until_end bs))) (suc (length bs)) (length (until_end bs)) (length bs) (λ h. omega arith) (λ h. omega arith) ∙ ended_is bs)
+    ] refl
+
+front_is : (bs : List ℕ) → take (length (until_end bs)) bs ≡ until_end bs
+unfolding until_end
+front_is [] = refl
+front_is (b ∷ bs) =
+    elim (eqb b line_feed) as (λ t. eqb b line_feed ≡ t → take (length (until_end (b ∷ bs))) (b ∷ bs) ≡ until_end (b ∷ bs)) [
+      | true ↦ λ e. simp e
+      | false ↦ λ e. simp (e, front_is bs)
+    ] refl
+
+pub others_first : (b : ℕ) (l : List (List ℕ)) → Parted l → drop 1 (with_first b l) ≡ drop 1 l
 unfolding with_first
 others_first b l (parted f fs) = refl
 
-from_others : (k : ℕ) (bs : List ℕ) → fields_from k bs ≡ cond (is_ended bs) (k + length (others_in bs)) 0
-unfolding fields_from is_ended fields_in until_end split
-from_others k [] = refl
-from_others k (b ∷ bs) =
-    elim (eqb b line_feed) as (λ t. eqb b line_feed ≡ t → fields_from k (b ∷ bs) ≡ cond (is_ended (b ∷ bs)) (k + length (others_in (b ∷ bs))) 0) [
-      | true ↦ λ e. simp e (omega arith)
-      | false ↦ λ e.
-          (elim (eqb b comma) as (λ t. eqb b comma ≡ t → fields_from k (b ∷ bs) ≡ cond (is_ended (b ∷ bs)) (k + length (others_in (b ∷ bs))) 0) [
-            | true ↦ λ g.
-                let l : k + 1 + length (others_in bs) ≡ k + length (fields_in bs) = omega (arith, length_parted (fields_in bs) (split_parted (until_end bs))) in
-                simp (e, g, from_others (k + 1) bs, l)
-            | false ↦ λ g. simp (e, g, from_others k bs, others_first b (split (until_end bs)) (split_parted (until_end bs)))
-          ] refl)
-    ] refl
+-- a field after each comma
+others_of : List ℕ → ℕ
+others_of bs = length (drop 1 (split bs))
 
-pub counted_all : (bs : List ℕ) → fields_from 1 bs ≡ cond (is_ended bs) (length (fields_in bs)) 0
-unfolding fields_in
-counted_all bs =
-    let l : 1 + length (others_in bs) ≡ length (fields_in bs) = omega (arith, length_parted (fields_in bs) (split_parted (until_end bs))) in
-    from_others 1 bs ∙ rw l
+one_other : (b : ℕ) (bs : List ℕ) → others_of (b ∷ bs) ≡ cond (eqb b comma) (1 + others_of bs) (others_of bs)
+unfolding others_of split
+one_other b bs = go (eqb b comma)
+  where
+    go : (t : Bool) → length (drop 1 (cond t ([] ∷ split bs) (with_first b (split bs)))) ≡ cond t (1 + length (drop 1 (split bs))) (length (drop 1 (split bs)))
+    go true = omega (arith, length_parted (split bs) (split_parted bs))
+    go false = ap length (others_first b (split bs) (split_parted bs))
 
--- the fields of the line, where k stand before the place i or go on there
-abbrev pub CountedTo : List ℕ → ℕ → ℕ → Type 0
-CountedTo bs k i = fields_from 1 bs ≡ fields_from k (drop i bs)
+fields_counted : (bs : List ℕ) → others_of bs ≡ count_by (λ b. eqb b comma) bs
+unfolding others_of split
+fields_counted bs = is_count_by others_of (λ b. eqb b comma) refl one_other bs
 
-module _ (bs : List ℕ) (k i : ℕ) (c : CountedTo bs k i) where
-  pub counted_end : i < length bs → get_or bs i 0 ≡ line_feed → fields_from 1 bs ≡ k
-  unfolding fields_from
-  counted_end h e = c ∙ rw (drop-cons bs i 0) (simp (eq-eqb (get_or bs i 0) line_feed e))
+module _ (bs : List ℕ) where
+  end_is : position (λ b. eqb b line_feed) bs ≡ cond (is_ended bs) (Some (length (until_end bs))) None
+  end_is = simp (ends_at bs, ended_is bs)
 
-  pub counted_comma : i < length bs → (get_or bs i 0 ≡ line_feed → ⊥) → get_or bs i 0 ≡ comma → CountedTo bs (k + 1) (i + 1)
-  unfolding fields_from
-  counted_comma h e g = c ∙ rw (add-one i, drop-cons bs i 0) (simp (ne_eqb (get_or bs i 0) line_feed e, eq-eqb (get_or bs i 0) comma g))
+  pub unended : position (λ b. eqb b line_feed) bs ≡ None → is_ended bs ≡ false
+  unended h = go (is_ended bs) refl
+    where
+      go : (t : Bool) → is_ended bs ≡ t → t ≡ false
+      go true e = let z : Some (length (until_end bs)) ≡ None = sym (end_is ∙ rw e) ∙ h in absurd (let y : ◌≡◌ {A = ℕ} 0 1 = cc z in omega arith)
+      go false e = refl
 
-  pub counted_other : i < length bs → (get_or bs i 0 ≡ line_feed → ⊥) → (get_or bs i 0 ≡ comma → ⊥) → CountedTo bs k (i + 1)
-  unfolding fields_from
-  counted_other h e g = c ∙ rw (add-one i, drop-cons bs i 0) (simp (ne_eqb (get_or bs i 0) line_feed e, ne_eqb (get_or bs i 0) comma g))
+  pub ended : (n : ℕ) → position (λ b. eqb b line_feed) bs ≡ Some n → (is_ended bs ≡ true) × (n ≡ length (until_end bs))
+  ended n h = go (is_ended bs) refl
+    where
+      go : (t : Bool) → is_ended bs ≡ t → (t ≡ true) × (n ≡ length (until_end bs))
+      go true e = let z : Some (length (until_end bs)) ≡ Some n = sym (end_is ∙ rw e) ∙ h in (refl, sym (cc z))
+      go false e = let z : None ≡ Some n = sym (end_is ∙ rw e) ∙ h in absurd (let y : ◌≡◌ {A = ℕ} 0 1 = cc z in omega arith)
 
-  pub counted_out : length bs ≤ i → fields_from 1 bs ≡ 0
-  unfolding fields_from
-  counted_out h = c ∙ rw (drop_of_length-le bs h)
+  pub counted : (n : ℕ) → position (λ b. eqb b line_feed) bs ≡ Some n → count_by (λ b. eqb b comma) (take n bs) ≡ length (others_in bs)
+  unfolding fields_in others_of
+  counted n h =
+      let e = ended n h in
+      rw (e.1, front_is bs) (sym (fields_counted (until_end bs)))
 
--- for `count_fields`
-pub ruleset counting = (counted_all, counted_end, counted_comma, counted_other, counted_out)
+-- for `commas_in`
+pub ruleset counting = (unended, ended, counted)
 
 -- ---- the first field
 
@@ -83,65 +107,29 @@ pub first_of_lem : (b : ℕ) (l : List (List ℕ)) → Parted l → get_or (with
 unfolding with_first
 first_of_lem b l (parted f fs) = refl
 
--- a letter stands in front of the field that follows it
-first_letter : (b : ℕ) (bs : List ℕ) → comma < b → first_in (b ∷ bs) ≡ b ∷ first_in bs
-unfolding fields_in until_end split
-first_letter b bs h =
-    simp (ne_eqb b line_feed (λ e. omega arith), ne_eqb b comma (λ e. omega arith)) (first_of_lem b (split (until_end bs)) (split_parted (until_end bs)))
-
-empty_end : (b : ℕ) (bs : List ℕ) → b ≡ line_feed → first_in (b ∷ bs) ≡ []
-unfolding fields_in until_end split
-empty_end b bs e = simp (eq-eqb b line_feed e)
-
-empty_comma : (b : ℕ) (bs : List ℕ) → b ≡ comma → first_in (b ∷ bs) ≡ []
-unfolding fields_in until_end split
-empty_comma b bs e = simp (ne_eqb b line_feed (λ g. omega arith), eq-eqb b comma e)
-
-not_empty : (b : ℕ) (bs : List ℕ) → (b ≡ line_feed → ⊥) → (b ≡ comma → ⊥) → is_same (first_in (b ∷ bs)) [] ≡ false
+-- it is nothing where the bytes, or the line, or the field ends at once
+pub first_none : (bs : List ℕ) → length bs ≡ 0 → is_same (first_in bs) [] ≡ true
 unfolding fields_in until_end split is_same
-not_empty b bs e g = simp (ne_eqb b line_feed e, ne_eqb b comma g) (rw (first_of_lem b (split (until_end bs)) (split_parted (until_end bs))))
+first_none [] h = refl
+first_none (b ∷ bs) h = absurd (omega arith)
 
-same_letter : (b : ℕ) (f : List ℕ) → is_same (b ∷ f) (b ∷ []) ≡ is_same f []
-unfolding is_same
-same_letter b f = simp (eq-eqb b b refl)
+pub first_feed : (bs : List ℕ) → get_or bs 0 0 ≡ line_feed → is_same (first_in bs) [] ≡ true
+unfolding fields_in until_end split is_same
+first_feed [] h = refl
+first_feed (b ∷ bs) h = simp (eq-eqb b line_feed h)
 
-module _ (letter : ℕ) where
-  alone : (bs : List ℕ) → Lettered letter bs → is_same (first_in bs) (letter ∷ []) ≡ is_same (first_in (drop 1 bs)) []
-  alone [] l = absurd (omega (arith, l.some))
-  alone (b ∷ bs) l =
-      let e : b ≡ letter = l.first in
-      rw (← e) (ap (λ (f : List ℕ). is_same f (b ∷ [])) (first_letter b bs (omega (arith, l.apart))) ∙ same_letter b (first_in bs))
+pub first_comma : (bs : List ℕ) → get_or bs 0 0 ≡ comma → is_same (first_in bs) [] ≡ true
+unfolding fields_in until_end split is_same
+first_comma [] h = refl
+first_comma (b ∷ bs) h = simp (ne_eqb b line_feed (λ g. omega arith), eq-eqb b comma h)
 
-  pub alone_short : (bs : List ℕ) → Lettered letter bs → length bs < 2 → is_same (first_in bs) (letter ∷ []) ≡ true
-  unfolding fields_in until_end split is_same
-  alone_short [] l h = absurd (omega (arith, l.some))
-  alone_short (b ∷ []) l h = alone (b ∷ []) l
-  alone_short (b ∷ x ∷ bs) l h = absurd (omega arith)
+pub first_more : (bs : List ℕ) → 0 < length bs → (get_or bs 0 0 ≡ comma → ⊥) → (get_or bs 0 0 ≡ line_feed → ⊥) → is_same (first_in bs) [] ≡ false
+unfolding fields_in until_end split is_same
+first_more [] k h g = absurd (omega arith)
+first_more (b ∷ bs) k h g = simp (ne_eqb b line_feed g, ne_eqb b comma h) (rw (first_of_lem b (split (until_end bs)) (split_parted (until_end bs))))
 
-  pub alone_comma : (bs : List ℕ) → Lettered letter bs → get_or bs 1 0 ≡ comma → is_same (first_in bs) (letter ∷ []) ≡ true
-  unfolding is_same
-  alone_comma [] l h = absurd (omega (arith, l.some))
-  alone_comma (b ∷ []) l h = absurd (let z : ◌≡◌ {A = ℕ} 0 comma = h in omega arith)
-  alone_comma (b ∷ x ∷ bs) l h = alone (b ∷ x ∷ bs) l ∙ rw (empty_comma x bs h)
-
-  alone_end : (bs : List ℕ) → Lettered letter bs → get_or bs 1 0 ≡ line_feed → is_same (first_in bs) (letter ∷ []) ≡ true
-  unfolding is_same
-  alone_end [] l h = absurd (omega (arith, l.some))
-  alone_end (b ∷ []) l h = absurd (let z : ◌≡◌ {A = ℕ} 0 line_feed = h in omega arith)
-  alone_end (b ∷ x ∷ bs) l h = alone (b ∷ x ∷ bs) l ∙ rw (empty_end x bs h)
-
-  not_alone : (bs : List ℕ) → Lettered letter bs → 2 ≤ length bs → (get_or bs 1 0 ≡ comma → ⊥) → (get_or bs 1 0 ≡ line_feed → ⊥) → is_same (first_in bs) (letter ∷ []) ≡ false
-  not_alone [] l h g e = absurd (omega (arith, l.some))
-  not_alone (b ∷ []) l h g e = absurd (omega arith)
-  not_alone (b ∷ x ∷ bs) l h g e = alone (b ∷ x ∷ bs) l ∙ not_empty x bs e g
-
-  -- after the letter, no comma
-  pub alone_by_end : (bs : List ℕ) → Lettered letter bs → 2 ≤ length bs → (get_or bs 1 0 ≡ comma → ⊥) → eqb (get_or bs 1 0) line_feed ≡ is_same (first_in bs) (letter ∷ [])
-  alone_by_end bs l h g = go (eqb (get_or bs 1 0) line_feed) refl
-    where
-      go : (t : Bool) → eqb (get_or bs 1 0) line_feed ≡ t → t ≡ is_same (first_in bs) (letter ∷ [])
-      go true e = sym (alone_end bs l (eqb-true (get_or bs 1 0) line_feed e))
-      go false e = sym (not_alone bs l h g (eqb-false (get_or bs 1 0) line_feed e))
+-- for `goes_on`
+pub ruleset first_ends = (first_none, first_feed, first_comma, first_more)
 
 -- ---- 61 or 62
 
@@ -150,19 +138,14 @@ module _ (first : List ℕ) (count : ℕ) (bs : List ℕ) where
   unfolding is_misshapen
   misshapen_first e = simp (e, or-true)
 
-  pub misshapen_count : is_same (first_in bs) first ≡ true → not (eqb (cond (is_ended bs) (length (fields_in bs)) 0) (count + 1)) ≡ is_misshapen first count bs
-  unfolding is_misshapen fields_in
-  misshapen_count e = simp e (go (is_ended bs))
+  -- by the commas of the line, where it is ended
+  pub by_commas : is_same (first_in bs) first ≡ true → not (option_eq eqb (cond (is_ended bs) (Some (length (others_in bs))) None) (Some count)) ≡ is_misshapen first count bs
+  unfolding is_misshapen
+  by_commas e = simp e (go (is_ended bs))
     where
-      one_more_lem : eqb (length (fields_in bs)) (count + 1) ≡ eqb (length (others_in bs)) count
-      one_more_lem = same_equal (length (fields_in bs)) (count + 1) (length (others_in bs)) count (λ g. omega (arith, sizes)) (λ g k. g (omega (arith, sizes)))
-        where
-          sizes : length (fields_in bs) ≡ length (others_in bs) + 1
-          sizes = length_parted (fields_in bs) (split_parted (until_end bs))
-
-      go : (t : Bool) → not (eqb (cond t (length (fields_in bs)) 0) (count + 1)) ≡ (not t || not (eqb (length (others_in bs)) count))
-      go true = ap not one_more_lem
-      go false = ap not (ne_eqb 0 (count + 1) (λ g. omega arith))
+      go : (t : Bool) → not (option_eq eqb (cond t (Some (length (others_in bs))) None) (Some count)) ≡ (not t || not (eqb (length (others_in bs)) count))
+      go true = refl
+      go false = refl
 
   -- no numbers make a line of the bytes
   abbrev pub NoLine : Type 0

@@ -5,6 +5,7 @@ pub mod Exactness
 mod Faults
 mod FieldLaws
 mod Lent
+mod Letters
 pub mod LineBytes
 pub mod LineLaws
 mod Listing

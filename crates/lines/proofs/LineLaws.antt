@@ -1,6 +1,6 @@
 -- A line is its kind and its numbers.
 -- Assumes nothing.
-use mathlib.Core.Path.{◌≡◌, refl, sym}
+use mathlib.Core.Path.{◌≡◌, refl, sym, ap, ◌∙◌}
 use mathlib.Core.Bool.{Bool, true, false, cond}
 use mathlib.Core.List.{List}
 use Prim.Native.Nat.{ℕ, ◌≤◌}
@@ -25,6 +25,11 @@ use Rattle.lines.proofs.Splitting.{lacks}
 pub card_of_lem : (c : Card) → card_of (fields_of c) ≡ c
 unfolding card_of fields_of
 card_of_lem c = refl
+
+-- the line of a card's fields
+pub card_line : (c : Card) (ns : List ℕ) → fields_of c ≡ ns → L.Card c ≡ line_of card ns
+unfolding line_of
+card_line c ns e = ap L.Card (sym (ap card_of (sym e) ∙ card_of_lem c))
 
 -- line E has no more numbers in any edition than in the newest
 pub totals_few : (e : ℕ) → count_of e totals ≤ most_later

@@ -1,7 +1,7 @@
 -- The digits at the front of a text: what `number_at` is by the tests that the code makes, and the loop over the digits.
 -- Assumes nothing.
 use mathlib.Core.Path.{◌≡◌, refl, sym, ap, ◌∙◌}
-use mathlib.Core.Bool.{true, false, not, ◌||◌, and-false, or-true}
+use mathlib.Core.Bool.{Bool, true, false, not, ◌||◌, and-false, or-true}
 use mathlib.Core.List.{List, [], ◌∷◌, ◌++◌, append_assoc, append-nil}
 use mathlib.Core.Logic.{◌⊎◌, inl, inr, ⊎_elim}
 use Prim.Native.Nat.{ℕ, suc, ◌+◌, ◌-◌, ◌*◌, ◌^◌, ◌≤◌, ◌<◌, min}
@@ -9,13 +9,14 @@ use native.Mathlib.Omega.{arith}
 use native.Mathlib.Numerals.{add-one}
 use native.Mathlib.Nat.{pow-le-pow_right, lt_of_lt_of_le}
 use lib.Dec.{eqb}
+use Rattle.std.proofs.Common.{None}
 use lib.ListN.{length, get_or, take, drop, length-take, drop_of_length-le}
-use lib.Seq.{drop-cons, take-suc, take_at, take_all, length-take-le}
-use borrow.Author.Tests.{le-leb, lt-leb, eq-eqb, ne_eqb}
+use lib.Seq.{drop-cons, get_or-take, take-suc, take_at, take_all, length-take-le}
+use borrow.Author.Tests.{le-leb, lt-leb, eq-eqb, ne_eqb, eqb-true, eqb-false}
+use Rattle.std.specs.Char.{is_ascii_digit}
 use Rattle.lines.specs.Bytes.{digit_zero}
 use Rattle.lines.specs.Number.{is_digit, are_digits, value_of, most_digits, is_number}
-use Rattle.lines.specs.Inside.Parts.{digits_at, number_at, looked_at, Digits}
-use Rattle.lines.specs.declared.number.Field.TheVariants.{Number, Missing}
+use Rattle.lines.specs.Inside.Parts.{found, digits_at, number_at, looked_at, Digits}
 use Rattle.lines.proofs.Decimals.{digits_snoc, value_snoc, value_below}
 
 -- ---- by the tests
@@ -48,20 +49,20 @@ digits_at_within (b ∷ bs) =
     ] refl
 
 module _ (bs : List ℕ) where
-  number_none : length (digits_at bs) ≡ 0 → number_at bs ≡ Missing
+  number_none : length (digits_at bs) ≡ 0 → number_at bs ≡ None
   unfolding number_at is_number
   number_none h = simp (lt-leb 1 (length (digits_at bs)) (omega arith), and-false)
 
-  number_long : most_digits < length (digits_at bs) → number_at bs ≡ Missing
+  number_long : most_digits < length (digits_at bs) → number_at bs ≡ None
   unfolding number_at is_number
   number_long h = simp (lt-leb (length (digits_at bs)) most_digits h, and-false)
 
-  number_lead : 1 < length (digits_at bs) → get_or bs 0 0 ≡ digit_zero → number_at bs ≡ Missing
+  number_lead : 1 < length (digits_at bs) → get_or bs 0 0 ≡ digit_zero → number_at bs ≡ None
   unfolding number_at is_number
   number_lead h e =
       simp (ne_eqb (length (digits_at bs)) 1 (λ k. omega arith), digits_at_first bs (omega arith), eq-eqb (get_or bs 0 0) digit_zero e, and-false)
 
-  number_some : 1 ≤ length (digits_at bs) → length (digits_at bs) ≤ most_digits → (length (digits_at bs) ≡ 1) ⊎ (get_or bs 0 0 ≡ digit_zero → ⊥) → number_at bs ≡ Number (value_of (digits_at bs)) (length (digits_at bs))
+  number_some : 1 ≤ length (digits_at bs) → length (digits_at bs) ≤ most_digits → (length (digits_at bs) ≡ 1) ⊎ (get_or bs 0 0 ≡ digit_zero → ⊥) → number_at bs ≡ found (value_of (digits_at bs)) (length (digits_at bs))
   unfolding number_at is_number
   number_some p q o =
       let c : (eqb (length (digits_at bs)) 1 || not (eqb (get_or (digits_at bs) 0 0) digit_zero)) ≡ true =
@@ -77,26 +78,26 @@ module _ (bs : List ℕ) where
   pub digits_within : 0 < length (take looked_at (digits_at bs)) → 0 < length bs
   digits_within h = omega (arith, looked_long, digits_at_within bs)
 
-  pub digits_none : length (take looked_at (digits_at bs)) ≡ 0 → Missing ≡ number_at bs
+  pub digits_none : length (take looked_at (digits_at bs)) ≡ 0 → None ≡ number_at bs
   digits_none h = sym (number_none bs (omega (arith, looked_long)))
 
-  pub digits_long : most_digits < length (take looked_at (digits_at bs)) → Missing ≡ number_at bs
+  pub digits_long : most_digits < length (take looked_at (digits_at bs)) → None ≡ number_at bs
   digits_long h = sym (number_long bs (omega (arith, looked_long)))
 
-  pub digits_lead : 1 < length (take looked_at (digits_at bs)) → get_or bs 0 0 ≡ digit_zero → Missing ≡ number_at bs
+  pub digits_lead : 1 < length (take looked_at (digits_at bs)) → get_or bs 0 0 ≡ digit_zero → None ≡ number_at bs
   digits_lead h e = sym (number_lead bs (omega (arith, looked_long)) e)
 
   module _ (v n : ℕ) (s : v ≡ value_of (take looked_at (digits_at bs))) (c : n ≡ length (take looked_at (digits_at bs))) (few : n ≤ most_digits) where
-    digits_some : 1 ≤ n → (n ≤ 1) ⊎ (get_or bs 0 0 ≡ digit_zero → ⊥) → Number v n ≡ number_at bs
+    digits_some : 1 ≤ n → (n ≤ 1) ⊎ (get_or bs 0 0 ≡ digit_zero → ⊥) → found v n ≡ number_at bs
     digits_some h o =
         let l : n ≡ length (digits_at bs) = omega (arith, looked_long) in
         let whole : v ≡ value_of (digits_at bs) = s ∙ ap value_of (take_all looked_at (digits_at bs) (omega arith)) in
         rw (l, whole) (sym (number_some bs (omega arith) (omega arith) (⊎_elim (λ k. inl (omega arith)) (λ k. inr k) o)))
 
-    pub digits_one : n ≡ 1 → Number v n ≡ number_at bs
+    pub digits_one : n ≡ 1 → found v n ≡ number_at bs
     digits_one h = digits_some (omega arith) (inl (omega arith))
 
-    pub digits_unled : 1 ≤ n → (get_or bs 0 0 ≡ digit_zero → ⊥) → Number v n ≡ number_at bs
+    pub digits_unled : 1 ≤ n → (get_or bs 0 0 ≡ digit_zero → ⊥) → found v n ≡ number_at bs
     digits_unled h g = digits_some h (inr g)
 
 -- for `checked_number`
@@ -162,3 +163,42 @@ module _ (bs : List ℕ) (v n : ℕ) (p : PassedDigits bs v n) where
   pub ends_with : length bs ≤ n → digits_at (drop n bs) ≡ []
   unfolding digits_at
   ends_with h = rw (drop_of_length-le bs h)
+
+-- the same for the bytes that are looked at, m of them
+module _ (bs : List ℕ) (m v n : ℕ) (few : m ≡ min (length bs) looked_at) (p : PassedDigits bs v n) where
+  looked_many : length (take m bs) ≡ m
+  looked_many = omega (arith, length-take m bs)
+
+  module _ (h : n < length (take m bs)) where
+    same_byte : get_or (take m bs) n 0 ≡ get_or bs n 0
+    same_byte = let k : n < m = omega (arith, looked_many) in get_or-take m bs n 0 k
+
+    same_digit : is_ascii_digit (get_or (take m bs) n 0) ≡ is_digit (get_or bs n 0)
+    unfolding is_digit
+    same_digit = ap is_ascii_digit same_byte
+
+    pub looked_fits : v < 10 ^ most_digits
+    looked_fits = passed_fits bs v n p (omega (arith, looked_many))
+
+    pub looked_more : is_ascii_digit (get_or (take m bs) n 0) ≡ true → PassedDigits bs (v * 10 + (get_or (take m bs) n 0 - digit_zero)) (n + 1)
+    looked_more d = rw same_byte (passed_more bs v n p (omega (arith, looked_many)) (sym same_digit ∙ d))
+
+    pub looked_end : is_ascii_digit (get_or (take m bs) n 0) ≡ false → Digits bs v n
+    looked_end d = passed_end bs v n p (omega (arith, looked_many)) (inr (ends_at bs v n p (omega (arith, looked_many)) (sym same_digit ∙ d)))
+
+  pub looked_all : n ≤ length (take m bs) → length (take m bs) ≤ n → Digits bs v m
+  looked_all k h =
+      let e : n ≡ m = omega (arith, looked_many) in
+      let ends : n ≡ looked_at → Digits bs v n = λ a. passed_end bs v n p (omega arith) (inl a) in
+      let whole : length bs ≤ n → Digits bs v n = λ a. passed_end bs v n p (omega arith) (inr (ends_with bs v n p a)) in
+      rw (← e) (⊎_elim ends whole (which e))
+    where
+      which : n ≡ m → (n ≡ looked_at) ⊎ (length bs ≤ n)
+      which e = by (eqb n looked_at) refl
+        where
+          by : (t : Bool) → eqb n looked_at ≡ t → (n ≡ looked_at) ⊎ (length bs ≤ n)
+          by true g = inl (eqb-true n looked_at g)
+          by false g = inr (let other : n ≡ looked_at → ⊥ = eqb-false n looked_at g in omega arith)
+
+-- for `read_number`
+pub ruleset looking = (passed_none, looked_fits, looked_more, looked_end, looked_all)

@@ -40,6 +40,10 @@ count_of e card = card_fields
 count_of e sample = 4
 count_of e totals = cond (counts_cold e) 6 (cond (keeps_seconds e) 5 4)
 
+-- those of a meter's end state
+abbrev pub totals_numbers : Totals → List ℕ
+totals_numbers t = t.accepted ∷ t.refused ∷ t.register ∷ t.volume ∷ t.kept_seconds ∷ t.cold_register ∷ []
+
 -- The numbers that a line can have, in order: the edition in the opening; "one line C with the card's twelve fields, any count of lines S
 -- with a sample's four, one line E with accepted, refused, register, volume", the kept seconds and the cold register.
 unfoldable pub all_numbers_of : EditionLine → List ℕ
@@ -49,7 +53,7 @@ all_numbers_of l = by l.line
     by L.Opening = l.edition ∷ []
     by (L.Card c) = fields_of c
     by (L.Sample s) = s.pulses ∷ s.seconds ∷ s.supply_reading ∷ s.return_reading ∷ []
-    by (L.End t) = t.accepted ∷ t.refused ∷ t.register ∷ t.volume ∷ t.kept_seconds ∷ t.cold_register ∷ []
+    by (L.End t) = totals_numbers t
 
 -- those that it has in its edition, and those "in a field that the edition lacks"
 unfoldable pub numbers_of : EditionLine → List ℕ

@@ -4,6 +4,7 @@
 mod fault;
 mod fields;
 mod held;
+mod kind;
 mod line;
 mod listed;
 mod number;

@@ -2,7 +2,7 @@
 use meter::{Card, Sample};
 
 // What line E carries, in the papers' order: a meter's end state. Every edition's fields stand here; one that an edition lacks is zero.
-#[derive(Clone, Copy)]
+#[derive(Clone, Copy, Debug, PartialEq, Eq)]
 pub struct Totals {
     pub accepted: u64,
     pub refused: u64,
@@ -10,6 +10,50 @@ pub struct Totals {
     pub volume: u64,
     pub kept_seconds: u64,
     pub cold_register: u64,
+}
+
+impl From<[u64; 6]> for Totals {
+    ghost use Rattle.std.specs.Prelude.{◌≡◌};
+    ghost use Rattle.lines.specs.Line.{totals_from};
+
+    ghost from_gives = { λ numbers t. t ≡ totals_from numbers };
+
+    fn from(numbers: [u64; 6]) -> Totals {
+        let [
+            accepted,
+            refused,
+            register,
+            volume,
+            kept_seconds,
+            cold_register,
+        ] = numbers;
+        Totals {
+            accepted,
+            refused,
+            register,
+            volume,
+            kept_seconds,
+            cold_register,
+        }
+    }
+}
+
+impl From<Totals> for [u64; 6] {
+    ghost use Rattle.std.specs.Prelude.{◌≡◌};
+    ghost use Rattle.lines.specs.Line.{totals_numbers};
+
+    ghost from_gives = { λ t numbers. numbers ≡ totals_numbers t };
+
+    fn from(t: Totals) -> [u64; 6] {
+        [
+            t.accepted,
+            t.refused,
+            t.register,
+            t.volume,
+            t.kept_seconds,
+            t.cold_register,
+        ]
+    }
 }
 
 // A line, by its kind. Any content can stand here.
@@ -29,7 +73,7 @@ pub struct EditionLine {
 }
 
 // What may come, as the reader is told, with the edition of every line but the opening.
-#[derive(Clone, Copy)]
+#[derive(Clone, Copy, Debug, PartialEq, Eq)]
 pub enum MayCome {
     Opening,
     Card(u64),

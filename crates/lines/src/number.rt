@@ -1,7 +1,7 @@
 // One number of a line: its digits, read and written.
-ghost use Rattle.std.specs.Prelude.{◌≡◌, ◌++◌, ◌∷◌, ◌+◌, ◌≤◌, min, length, drop};
+ghost use Rattle.std.specs.Prelude.{◌≡◌, ◌++◌, ◌∷◌, ◌+◌, ◌≤◌, length, drop};
 ghost use Rattle.lines.specs.Bytes.{comma};
-ghost use Rattle.lines.specs.Number.{is_digit, decimal};
+ghost use Rattle.lines.specs.Number.{decimal};
 ghost use Rattle.lines.specs.Inside.Parts.{Digits, number_at, field_at, last_digits};
 
 const MOST_DIGITS: usize = 18;
@@ -11,89 +11,62 @@ const LOOKED_AT: usize = MOST_DIGITS + 1;
 // The smallest number of more digits: ten to the power of MOST_DIGITS.
 pub(crate) const LEAST_LONG: u64 = 1000000000000000000;
 
-// A number and how many bytes it takes, or none.
-#[derive(Clone, Copy)]
-pub(crate) enum Field {
-    Number(u64, usize),
-    Missing,
+// A number and how many bytes it takes.
+#[derive(Clone, Copy, Debug, PartialEq, Eq)]
+pub(crate) struct Number {
+    pub value: u64,
+    pub size: usize,
 }
 
 // The comma at the front of part and the number after it.
 #[tactic(auto, using(crate::proofs::FieldLaws::by_front))]
-pub(crate) fn read_field(part: &[u8]) -> Field
+pub(crate) fn read_field(part: &[u8]) -> Option<Number>
     ensures { result ≡ field_at part.now }
 {
-    if part.len() == 0 {
-        return Field::Missing;
-    }
-    if part[0] != b',' {
-        return Field::Missing;
-    }
-    let Field::Number(value, n) = read_number(&part[1..]) else {
-        return Field::Missing;
+    let [b',', digits @ ..] = part else {
+        return None;
     };
-    Field::Number(value, n + 1)
+    let number = read_number(digits)?;
+    Some(Number {
+        value: number.value,
+        size: number.size + 1,
+    })
 }
 
 // The number at the front of part. One digit more than a number has is looked at, and no further one.
-#[tactic(auto, using(crate::proofs::Decimals::digit_low, crate::proofs::Runs::passed_none, crate::proofs::Runs::passed_fits))]
-fn read_number(part: &[u8]) -> Field
+#[tactic(auto, using(crate::proofs::Runs::looking))]
+fn read_number(part: &[u8]) -> Option<Number>
     ensures { result ≡ number_at part.now }
 {
-    let most = smaller(part.len(), LOOKED_AT);
+    let most = part.len().min(LOOKED_AT);
     let mut value: u64 = 0;
-    let mut n: usize = 0;
-    while n < most {
-        let b = part[n];
-        if !is_digit(b) {
+    for (n, b) in part[..most].iter().enumerate() {
+        if !b.is_ascii_digit() {
             return checked_number(part, value, n);
         }
-        value = value * 10 + wide(b - b'0');
-        n += 1;
+        value = value * 10 + u64::from(b - b'0');
     }
-    checked_number(part, value, n)
-}
-
-fn smaller(a: usize, b: usize) -> usize
-    ensures { result ≡ min a b }
-{
-    if a < b { a } else { b }
-}
-
-#[tactic(auto, unfolding(crate::specs::Number::is_digit))]
-fn is_digit(b: u8) -> bool
-    ensures { result ≡ is_digit b }
-{
-    if b < b'0' {
-        return false;
-    }
-    b <= b'9'
-}
-
-fn wide(x: u8) -> u64
-    ensures { result ≡ x }
-{
-    x as u64
+    checked_number(part, value, most)
 }
 
 // The n digits at the front of part, which say value, if they are a number's text.
 #[tactic(auto, using(crate::proofs::Runs::by_digits))]
-fn checked_number(part: &[u8], value: u64, n: usize) -> Field
+fn checked_number(part: &[u8], value: u64, n: usize) -> Option<Number>
     requires { Digits part.now value n }
     ensures { result ≡ number_at part.now }
 {
     if n == 0 {
-        return Field::Missing;
+        return None;
     }
     if MOST_DIGITS < n {
-        return Field::Missing;
+        return None;
     }
     if 1 < n {
         if part[0] == b'0' {
-            return Field::Missing;
+            return None;
         }
     }
-    Field::Number(value, n)
+    Some(Number { value, size: n })
 }
 
 // How many digits x has.

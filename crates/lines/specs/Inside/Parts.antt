@@ -1,41 +1,60 @@
 -- What the functions inside reader and writer answer.
-use Rattle.std.specs.Prelude.{◌≡◌, ℕ, zero, suc, ◌+◌, ◌*◌, ◌/◌, ◌%◌, ◌≤◌, ◌<◌, cond, List, [], ◌∷◌, ◌++◌, ◌⊎◌, eqb, length, get_or, take}
+use Rattle.std.specs.Prelude.{◌≡◌, ℕ, zero, suc, ◌+◌, ◌*◌, ◌/◌, ◌%◌, ◌≤◌, ◌<◌, cond, List, [], ◌∷◌, ◌++◌, ◌⊎◌, Option, Some, None, Result, Ok, Err, eqb, length, get_or, take}
 use Rattle.quantity.specs.Refusals.{first_of}
 use Rattle.quantity.specs.declared.refusal.Outcome.TheVariants as O
 use Rattle.meter.specs.Card.{card_fields}
 use Rattle.lines.specs.Bytes.{comma, digit_zero, letter_e, letter_s}
 use Rattle.lines.specs.Number.{most_digits64, is_digit, most_digits, is_number, value_of}
-use Rattle.lines.specs.Line.{LineKind, sample, totals, kind_of, count_of, all_numbers_of}
-use Rattle.lines.specs.Reading.{shape_rows, numbers_in, size_of}
+use Rattle.lines.specs.Line.{LineKind, card, sample, totals, kind_of, count_of, all_numbers_of, in_edition, content_rows, line_of}
+use Rattle.lines.specs.Reading.{shape_rows, numbers_in, size_of, answer_of}
 use Rattle.lines.specs.declared.line.EditionLine.{EditionLine}
 use Rattle.lines.specs.declared.listed.Listed.{Listed}
-use Rattle.lines.specs.declared.number.Field.{Field}
-use Rattle.lines.specs.declared.number.Field.TheVariants as N
-use Rattle.lines.specs.declared.fields.Numbers.{Numbers}
-use Rattle.lines.specs.declared.fields.Numbers.TheVariants as A
+use Rattle.lines.specs.declared.number.Number.{Number}
+use Rattle.lines.specs.declared.kind.Kind.{Kind}
+use Rattle.lines.specs.declared.kind.Kind.TheVariants as K
+use Rattle.lines.specs.declared.line.Front.{Front}
+use Rattle.lines.specs.declared.line.Line.{Line}
 
 -- the digits at the front of a text
 unfoldable pub digits_at : List ℕ → List ℕ
 digits_at [] = []
 digits_at (b ∷ bs) = cond (is_digit b) (b ∷ digits_at bs) []
 
+-- a number that takes so many bytes
+abbrev pub found : ℕ → ℕ → Option Number
+found v n = Some (record { value = v; size = n })
+
 -- the number that the digits at the front of a text are, and how many they are
-unfoldable pub number_at : List ℕ → Field
-number_at bs = cond (is_number (digits_at bs)) (N.Number (value_of (digits_at bs)) (length (digits_at bs))) N.Missing
+unfoldable pub number_at : List ℕ → Option Number
+number_at bs = cond (is_number (digits_at bs)) (found (value_of (digits_at bs)) (length (digits_at bs))) None
 
 -- a comma and the number after it
-unfoldable pub one_more : Field → Field
-one_more (N.Number v n) = N.Number v (n + 1)
-one_more N.Missing = N.Missing
+unfoldable pub one_more : Option Number → Option Number
+one_more (Some x) = found x.value (x.size + 1)
+one_more None = None
 
-unfoldable pub field_at : List ℕ → Field
-field_at [] = N.Missing
-field_at (b ∷ bs) = cond (eqb b comma) (one_more (number_at bs)) N.Missing
+unfoldable pub field_at : List ℕ → Option Number
+field_at [] = None
+field_at (b ∷ bs) = cond (eqb b comma) (one_more (number_at bs)) None
 
--- the numbers of a line and the bytes that it takes, where no row of its shape refuses it; or the refusal
-pub data NumbersRead (first : List ℕ) (bs out : List ℕ) : Numbers → Type 0 where
-  all_read : first_of (shape_rows first (length out) bs) ≡ O.Accepted → out ≡ numbers_in bs → NumbersRead first bs out (A.All (size_of bs))
-  line_refused : (r : ℕ) → first_of (shape_rows first (length out) bs) ≡ O.Refused r → NumbersRead first bs out (A.Refused r)
+-- By what follows a line's letter: its numbers and the bytes that they and its end take, where no row of its shape refuses it; or the refusal.
+-- What is left of the first field there is nothing.
+pub data NumbersRead (after out : List ℕ) : Result ℕ ℕ → Type 0 where
+  all_read : first_of (shape_rows [] (length out) after) ≡ O.Accepted → out ≡ numbers_in after → NumbersRead after out (Ok (size_of after))
+  line_refused : (r : ℕ) → first_of (shape_rows [] (length out) after) ≡ O.Refused r → NumbersRead after out (Err r)
+
+-- the kind of a line that begins with a letter
+unfoldable pub kind_after : Kind → LineKind
+kind_after K.Card = card
+kind_after K.Sample = sample
+kind_after K.End = totals
+
+-- what the reader answers by what follows the letter of a line of a kind
+unfoldable pub after_letter : ℕ → Kind → List ℕ → Front
+after_letter e k after = answer_of (in_edition e line) (size_of after + 1) (first_of (shape_rows [] (count_of e (kind_after k)) after ++ content_rows line))
+  where
+    line : Line
+    line = line_of (kind_after k) (numbers_in after)
 
 -- how many digits are looked at: one more than a number has
 abbrev pub looked_at : ℕ
@@ -70,19 +89,6 @@ pub record AreListed (ns : List ℕ) (shown : ℕ) (l : Listed) : Type 0 where
 abbrev pub LineListed : EditionLine → Listed → Type 0
 LineListed line l = AreListed (all_numbers_of line) (count_of line.edition (kind_of line.line)) l
 
--- bytes that begin with a letter, which parts neither fields nor lines
-pub record Lettered (letter : ℕ) (bs : List ℕ) : Type 0 where
-  pub some : 0 < length bs
-  pub first : get_or bs 0 0 ≡ letter
-  pub apart : comma < letter
-
--- the two letters of the lines after the card's, and the kind that each names
-abbrev pub LaterLetter : ℕ → Type 0
-LaterLetter letter = (letter ≡ letter_s) ⊎ (letter ≡ letter_e)
-
-unfoldable pub later_kind : ℕ → LineKind
-later_kind letter = cond (eqb letter letter_e) totals sample
-
--- none of those lines has more numbers than the last one in the newest edition
+-- line E has no more numbers than it has in the newest edition
 abbrev pub most_later : ℕ
 most_later = 6
