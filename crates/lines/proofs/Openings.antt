@@ -6,7 +6,9 @@ use mathlib.Core.List.{List, [], ◌∷◌, ◌++◌}
 use mathlib.Core.Logic.{◌⊎◌, inl, inr}
 use Prim.Native.Nat.{ℕ, zero, suc, ◌+◌, ◌-◌, ◌≤◌, ◌<◌}
 use native.Mathlib.Omega.{arith}
+use lib.Dec.{eqb}
 use lib.ListN.{length, get_or, take}
+use Rattle.std.specs.Cmp.Lexicographic.{pointwise}
 use Rattle.quantity.proofs.Conditions.{inside}
 use Rattle.meter.specs.Edition.{last_edition, is_other_edition}
 use Rattle.lines.specs.Bytes.{line_feed, comma, digit_zero, archive_word}
@@ -14,7 +16,7 @@ use Rattle.lines.specs.Line.{kind_of, first_field, count_of, all_numbers_of, num
 use Rattle.lines.specs.Reading.{is_same, opened_up_to, edition_in}
 use Rattle.lines.specs.Theorems.{OpeningBytes, OpeningLength, OpenedExactly}
 use Rattle.lines.proofs.Decimals.{decimal_one}
-use Rattle.lines.proofs.Same.{same_true, same_eq}
+use Rattle.lines.proofs.Same.{same_true, same_eq, same_pointwise}
 
 -- an edition is a digit
 pub edition_most : (e : ℕ) → is_other_edition e ≡ false → e ≤ last_edition
@@ -32,6 +34,11 @@ opening_bytes e h = digit_bytes e (edition_most e h)
 
 pub opening_length_lem : OpeningLength
 opening_length_lem e h = digit_length e (edition_most e h)
+
+-- bytes that begin with it, by the library's test
+pub opens_by : (bs w : List ℕ) (e : ℕ) → e ≤ last_edition → w ≡ bytes_of (opening_in e) →
+    pointwise eqb w (take (length w) bs) ≡ is_same (take opening_length bs) (bytes_of (opening_in e))
+opens_by bs w e h g = same_pointwise (take (length w) bs) w ∙ rw (g, digit_length e h)
 
 -- the bytes tell the edition
 edition_told : (e f : ℕ) → e ≤ last_edition → f ≤ last_edition → bytes_of (opening_in e) ≡ bytes_of (opening_in f) → e ≡ f

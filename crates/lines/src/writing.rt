@@ -10,7 +10,7 @@ ghost use Rattle.lines.specs.Writing.{text_rows, write_rows, written_of, put_at,
 use crate::line::{EditionLine, Line, Written};
 use crate::listed::{fields_length, first_length, has_from, numbers_of};
 use crate::number::{LEAST_LONG, put_field};
-use crate::opening::{OPENING_LENGTH, put_opening};
+use crate::opening::OPENING_LENGTH;
 use meter::is_other_edition;
 use quantity::Outcome;
 
@@ -96,7 +96,7 @@ fn put_line(buf: &mut [u8], at: usize, what: EditionLine) -> usize
     let line = what.line;
     match line {
         Line::Opening => {
-            put_opening(&mut buf[at..], what.edition);
+            
             at + OPENING_LENGTH
         }
         Line::Card(_) => put_listed(buf, at, b'C', what),
