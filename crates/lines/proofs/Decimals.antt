@@ -5,6 +5,7 @@ use mathlib.Core.Bool.{Bool, true, false, not, ◌&&◌, ◌||◌, or-true}
 use mathlib.Core.List.{List, [], ◌∷◌, ◌++◌, append_assoc, append-nil}
 use Prim.Native.Nat.{ℕ, zero, suc, ◌+◌, ◌-◌, ◌*◌, ◌/◌, ◌%◌, ◌^◌, ◌≤◌, ◌<◌}
 use native.Mathlib.Omega.{arith}
+use native.Mathlib.Numerals.{add-one}
 use native.Mathlib.Nat.{pow-suc, pow-le-pow_right, lt_of_lt_of_le, mul-le-mul_right}
 use lib.Dec.{ltb, leb, eqb}
 use lib.ListN.{length, get_or, length-append, get_or-append}
@@ -153,8 +154,19 @@ decimal_short = decimal_ind (λ n. (k : ℕ) → 1 ≤ k → n < 10 ^ k → leng
 pub length_one : (n : ℕ) → n < 10 → length (decimal n) ≡ 1
 length_one n h = simp (decimal_one n h)
 
-pub length_step : (n : ℕ) → 10 ≤ n → length (decimal n) ≡ length (decimal (n / 10)) + 1
-length_step n h = simp (decimal_step n h, length-append)
+-- by the powers of ten that a number lies between
+pub power_length : (x k : ℕ) → 10 ^ k ≤ x → x < 10 * 10 ^ k → k + 1 ≡ length (decimal x)
+power_length x k low high =
+    let up : length (decimal x) ≤ k + 1 = decimal_short x (k + 1) (omega arith) (rw (add-one k, pow-suc 10 k) (omega arith)) in
+    let below : x < 10 ^ length (decimal x) = rw (value_decimal x) at (value_below (decimal x) (decimal_digits x)) in
+    let few : length (decimal x) ≤ k → ⊥ = λ h. let p : 10 ^ length (decimal x) ≤ 10 ^ k = pow-le-pow_right {n = 10} (omega arith) h in omega arith in
+    omega (arith, up, few)
+
+pub length_zero : (x : ℕ) → x ≡ 0 → 1 ≡ length (decimal x)
+length_zero x h = sym (length_one x (omega arith))
+
+-- for `width`
+pub ruleset by_power = (power_length, length_zero)
 
 -- no leading zero
 decimal_lead : (n : ℕ) → 1 ≤ n → get_or (decimal n) 0 0 ≡ digit_zero → ⊥

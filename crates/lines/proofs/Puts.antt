@@ -29,17 +29,6 @@ all_digits = decimal_ind (λ n. last_digits (length (decimal n)) n ≡ decimal n
         let e : length (decimal n) ≡ suc (length (decimal (n / 10))) = simp (decimal_step n h, length-append) (omega arith) in
         rw (e, ih) (sym (decimal_step n h))
 
--- a store at the front of what is left
-drop_set_same : (l : List ℕ) (i a : ℕ) → i < length l → drop i (set l i a) ≡ a ∷ drop (suc i) l
-drop_set_same l i a h =
-    let g : i < length (set l i a) = simp length-set h in
-    drop-cons (set l i a) i 0 g ∙ simp (get_or-set_same l i a 0 h, drop-set-lt (suc i) l i a (omega arith))
-
--- one digit less to write
-pub digit_turn : (l : List ℕ) (i j r : ℕ) → j ≡ i + 1 → i < length l → last_digits i (r / 10) ++ drop i (set l i (digit_zero + r % 10)) ≡ last_digits j r ++ drop j l
-unfolding last_digits
-digit_turn l i j r e h = rw (e, add-one, drop_set_same l i (digit_zero + r % 10)) (sym (append_assoc (last_digits i (r / 10)) ((digit_zero + r % 10) ∷ []) (drop (suc i) l)))
-
 -- a part lent after its first byte comes back with the digits of x, and a comma is stored before them
 pub put_field : (part ys : List ℕ) (w x : ℕ) → w ≡ length (decimal x) → w < length part → ys ≡ last_digits w x ++ drop w (take (length part - 1) (drop 1 part))
     → set (take 1 part ++ (ys ++ drop (length part - 1) (drop 1 part))) 0 comma ≡ comma ∷ (decimal x ++ drop (w + 1) part)
@@ -50,12 +39,6 @@ put_field (p ∷ ps) ys w x m h e =
     let ys_is : ys ≡ decimal x ++ drop w ps = e ∙ rw (k, digits, take_all (length ps) ps (omega arith)) in
     let none : drop (length ps) ps ≡ [] = drop-length ps in
     ap (λ (l : List ℕ). comma ∷ l) (rw (k, none, append-nil) (ys_is ∙ rw add-one))
-
--- one byte more of f
-pub put_more : (d f : List ℕ) (i : ℕ) → i < length f → i < length d → set (take i f ++ drop i d) i (get_or f i 0) ≡ take (i + 1) f ++ drop (i + 1) d
-put_more d f i h k =
-    rw (add-one i, drop-cons d i 0 k, take-suc f i 0 h)
-    (set_at (take i f) (get_or d i 0) (drop (suc i) d) (get_or f i 0) i (length-take-le i f (omega arith)) ∙ sym (append_assoc (take i f) (get_or f i 0 ∷ []) (drop (suc i) d)))
 
 -- ---- a text put into a buffer at a place
 
@@ -112,9 +95,6 @@ unfolding put_at
 wrote_none xs at =
     let z : at + 0 ≡ at = omega arith in
     record { holds = sym (take-append-drop at xs) ∙ rw z; next = sym z }
-
-pub wrote_one : (xs : List ℕ) (at b : ℕ) → at < length xs → Wrote xs at (b ∷ []) (set xs at b) (at + 1)
-wrote_one xs at b h = record { holds = set_put_at xs at b h; next = refl }
 
 pub wrote_set : (xs : List ℕ) (at : ℕ) (t ys : List ℕ) (k b : ℕ) → Wrote xs at t ys k → at + length t + 1 ≤ length xs → Wrote xs at (t ++ (b ∷ [])) (set ys k b) (k + 1)
 wrote_set xs at t ys k b w room =

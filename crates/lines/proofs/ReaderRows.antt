@@ -3,20 +3,19 @@
 use mathlib.Core.Path.{◌≡◌, refl, sym, ap, ◌∙◌}
 use mathlib.Core.Bool.{Bool, true, false}
 use mathlib.Core.List.{List, [], ◌∷◌, ◌++◌}
-use Prim.Native.Nat.{ℕ, ◌+◌, ◌-◌, ◌<◌}
+use Prim.Native.Nat.{ℕ, ◌-◌, ◌<◌}
 use native.Mathlib.Omega.{arith}
 use lib.Dec.{eqb}
 use lib.ListN.{length, get_or, take, drop, take-append-drop}
 use borrow.Author.Tests.{ne_eqb}
 use Rattle.quantity.specs.Refusals.{Row, row, first_of}
-use Rattle.quantity.specs.declared.refusal.Outcome.TheVariants.{Accepted, Refused}
-use Rattle.quantity.proofs.Rows.{parts, or_else}
+use Rattle.quantity.specs.declared.refusal.Outcome.TheVariants.{Refused}
+use Rattle.quantity.proofs.Rows.{parts}
 use Rattle.meter.specs.Edition.{is_other_edition}
 use Rattle.lines.specs.Bytes.{line_feed, comma, letter_c, letter_e, letter_s}
-use Rattle.lines.specs.Line.{LineKind, opening, card, sample, totals, first_field, bytes_of, opening_in, in_edition, content_rows, opening_length, count_of, line_of}
+use Rattle.lines.specs.Line.{LineKind, card, sample, totals, first_field, bytes_of, opening_in, in_edition, content_rows, opening_length, count_of, line_of}
 use Rattle.lines.specs.Reading.{is_same, until_end, size_of, split, fields_in, first_in, numbers_in, shape_rows, edition_in, due_kind, line_in, line_rows, later_rows, read_rows, answer_of, read_of}
 use Rattle.lines.specs.Inside.Parts.{kind_after, after_letter}
-use Rattle.lines.specs.declared.kind.Kind.{Kind}
 use Rattle.lines.specs.declared.kind.Kind.TheVariants as K
 use Rattle.lines.specs.declared.line.MayCome.{MayCome}
 use Rattle.lines.specs.declared.line.MayCome.TheVariants as M
@@ -84,13 +83,14 @@ shape_other first count bs h = simp (misshapen_first first count bs h)
 
 -- ---- the line that is due
 
--- where the bytes begin with another letter than the kind's that is due
+-- by the rows of the kind that is due
 module _ (may : MayCome) (bs : List ℕ) (o : is_other_edition (edition_in may bs) ≡ false) (k : LineKind) (d : due_kind may bs ≡ k)
     (later : later_rows may bs ≡ line_rows (edition_in may bs) (due_kind may bs) bs) where
-  by_due : read_of may bs ≡ answer_of (in_edition (edition_in may bs) (line_of k (numbers_in bs))) (size_of bs) (first_of (line_rows (edition_in may bs) k bs))
+  pub by_due : read_of may bs ≡ answer_of (in_edition (edition_in may bs) (line_of k (numbers_in bs))) (size_of bs) (first_of (line_rows (edition_in may bs) k bs))
   unfolding read_of read_rows line_in
   by_due = rw (later, d, after_edition (edition_in may bs) (line_rows (edition_in may bs) k bs) o)
 
+  -- where the bytes begin with another first field
   wrong_first : is_same (first_in bs) (first_field k) ≡ false → read_of may bs ≡ F.Refused 61
   unfolding line_rows answer_of
   wrong_first h =

@@ -13,16 +13,13 @@ use borrow.Author.Tests.{ltb-false, ltb-true, lt-leb}
 use Rattle.quantity.specs.Refusals.{first_of, NoneApplies}
 use Rattle.quantity.specs.declared.refusal.Outcome.{Outcome}
 use Rattle.quantity.specs.declared.refusal.Outcome.TheVariants.{Accepted, Refused}
-use Rattle.quantity.proofs.Rows.{no_refusal, none_applies, none_of_parts}
+use Rattle.quantity.proofs.Rows.{parts, no_refusal, none_applies, none_of_parts}
 use Rattle.meter.specs.Edition.{is_other_edition}
-use Rattle.meter.specs.Card.{fields_of, card_rows}
-use Rattle.meter.specs.declared.card.Card.{Card}
-use Rattle.lines.specs.Bytes.{letter_c, letter_e, letter_h, letter_s}
+use Rattle.lines.specs.Bytes.{letter_c, letter_h, letter_s}
 use Rattle.lines.specs.Number.{decimal, most_digits, some_from, some_long}
 use Rattle.lines.specs.Line.{LineKind, opening, card, sample, totals, kind_of, first_field, all_numbers_of, numbers_of, lacked_of, text_of, bytes_of, opening_in, content_rows, count_of, line_of, opening_length}
 use Rattle.lines.specs.Reading.{is_same, size_of, fields_in, first_in, numbers_in, shape_rows, edition_in, due_kind, line_in, line_rows, later_rows, read_rows, answer_of, read_of, rest_of}
 use Rattle.lines.specs.Writing.{Writable, write_rows, place_of, written_of, put_at, buffer_after}
-use Rattle.lines.specs.Inside.Parts.{LaterLetter, later_kind}
 use Rattle.lines.specs.RoundTrip.{told_in, told_of, WritesBack}
 use Rattle.lines.specs.Theorems.{CanBeWritten, WrittenThenRead, ReadThenWritten, ReadWithin, OneLine, SameBytes, NoOtherBegins}
 use Rattle.lines.specs.declared.line.Line.{Line}
@@ -36,7 +33,7 @@ use Rattle.lines.proofs.Shape.{line_bytes, shape_forth}
 use Rattle.lines.proofs.LineLaws.{line_of_lem, kind_line, numbers_line, line_lacked_zero}
 use Rattle.lines.proofs.LineBytes.{line_bytes_lem, bytes_fields, bytes_numbers, bytes_size, bytes_shape}
 use Rattle.lines.proofs.Openings.{edition_most, opening_length_lem, opened_exactly}
-use Rattle.lines.proofs.ReaderRows.{opening_front, opening_sized, opening_read, card_read, later_read}
+use Rattle.lines.proofs.ReaderRows.{opening_front, opening_sized, opening_read, by_due}
 use Rattle.lines.proofs.WriterRows.{next_place, unrefused, refused_place, by_text, text_room, writable_exactly}
 
 -- ---- what is written is read back
@@ -47,38 +44,41 @@ reads_opening e rest o =
     opening_read (bytes_of (opening_in e) ++ rest) e o ((opened_exactly (bytes_of (opening_in e) ++ rest) e o).1 (take_at (bytes_of (opening_in e)) rest opening_length (opening_length_lem e o)))
     ∙ rw (opening_length_lem e o)
 
-reads_card : (e : ℕ) (c : Card) (rest : List ℕ) → CanBeWritten (record { edition = e; line = L.Card c })
-    → read_of (M.Card e) (bytes_of (record { edition = e; line = L.Card c }) ++ rest)
-    ≡ F.Read (record { edition = e; line = L.Card c }) (length (bytes_of (record { edition = e; line = L.Card c })))
-unfolding kind_of first_field count_of all_numbers_of numbers_of content_rows fields_of answer_of
-reads_card e c rest w =
-    let line : EditionLine = record { edition = e; line = L.Card c } in
-    card_read e w.edition (bytes_of line ++ rest) c (bytes_shape line rest w.short) (sym (bytes_numbers line rest))
-    ∙ rw (bytes_size line rest, no_refusal (card_rows c) w.content)
+-- a line with a letter, where one of its kind and its edition is due
+module _ (may : MayCome) (line : EditionLine) (rest : List ℕ) where
+  abbrev bs : List ℕ
+  bs = bytes_of line ++ rest
 
--- a line after the card's, by its letter
-reads_later : (letter : ℕ) (line : EditionLine) (rest : List ℕ) → LaterLetter letter → first_field (kind_of line.line) ≡ letter ∷ [] → later_kind letter ≡ kind_of line.line
-    → CanBeWritten line → read_of (M.SampleOrEnd line.edition) (bytes_of line ++ rest) ≡ F.Read line (length (bytes_of line))
-unfolding answer_of
-reads_later letter line rest f e d w =
-    let bs : List ℕ = bytes_of line ++ rest in
-    let first : get_or bs 0 0 ≡ letter = ap (λ (l : List ℕ). get_or l 0 0) (line_bytes_lem line rest ∙ ap (λ (l : List ℕ). line_bytes l (numbers_of line) rest) e) in
-    let shape : first_of (shape_rows (letter ∷ []) (count_of line.edition (later_kind letter)) bs) ≡ Accepted = rw d (rw e at (bytes_shape line rest w.short)) in
-    later_read line.edition w.edition bs letter f first Accepted shape
-    ∙ rw (d, bytes_numbers line rest, bytes_size line rest, line_of_lem line w.lacked_zero)
+  reads_due : edition_in may bs ≡ line.edition → due_kind may bs ≡ kind_of line.line → later_rows may bs ≡ line_rows (edition_in may bs) (due_kind may bs) bs
+      → CanBeWritten line → read_of may bs ≡ F.Read line (length (bytes_of line))
+  unfolding line_rows answer_of
+  reads_due p d later w =
+      let k : LineKind = kind_of line.line in
+      let same : line_of k (numbers_in bs) ≡ line.line = ap (line_of k) (bytes_numbers line rest) ∙ line_of_lem line w.lacked_zero in
+      let rows : first_of (shape_rows (first_field k) (count_of line.edition k) bs ++ content_rows (line_of k (numbers_in bs))) ≡ Accepted =
+      parts (shape_rows (first_field k) (count_of line.edition k) bs) (content_rows (line_of k (numbers_in bs)))
+      ∙ rw (bytes_shape line rest w.short, same) (no_refusal (content_rows line.line) w.content) in
+      by_due may bs (rw p w.edition) k d later ∙ rw (p, rows, same, bytes_size line rest)
+
+first_read : (line : EditionLine) (rest : List ℕ) → first_in (bytes_of line ++ rest) ≡ first_field (kind_of line.line)
+first_read line rest = ap (λ (fs : List (List ℕ)). get_or fs 0 []) (bytes_fields line rest)
 
 -- LAW: the bytes of a line that no row of the writer refuses are read as that line
 pub reads_line : (line : EditionLine) (rest : List ℕ) → CanBeWritten line → read_of (told_of line) (bytes_of line ++ rest) ≡ F.Read line (length (bytes_of line))
-unfolding told_in kind_of first_field later_kind
+unfolding told_in is_same edition_in due_kind later_rows kind_of first_field
 reads_line l rest w = by l.edition l.line w
   where
     by : (e : ℕ) (line : Line) → CanBeWritten (record { edition = e; line = line })
         → read_of (told_in e line) (bytes_of (record { edition = e; line = line }) ++ rest)
         ≡ F.Read (record { edition = e; line = line }) (length (bytes_of (record { edition = e; line = line })))
     by e L.Opening w = reads_opening e rest w.edition
-    by e (L.Card c) w = reads_card e c rest w
-    by e (L.Sample s) w = reads_later letter_s (record { edition = e; line = L.Sample s }) rest (inl refl) refl refl w
-    by e (L.End t) w = reads_later letter_e (record { edition = e; line = L.End t }) rest (inr refl) refl refl w
+    by e (L.Card c) w = reads_due (M.Card e) (record { edition = e; line = L.Card c }) rest refl refl refl w
+    by e (L.Sample s) w =
+        let line : EditionLine = record { edition = e; line = L.Sample s } in
+        reads_due (M.SampleOrEnd e) line rest refl (rw (first_read line rest)) refl w
+    by e (L.End t) w =
+        let line : EditionLine = record { edition = e; line = L.End t } in
+        reads_due (M.SampleOrEnd e) line rest refl (rw (first_read line rest)) refl w
 
 -- the buffer from the place on, after a text was put there
 pub put_from : (buf : List ℕ) (at : ℕ) (text : List ℕ) → at ≤ length buf → drop at (put_at buf at text) ≡ text ++ drop (at + length text) buf

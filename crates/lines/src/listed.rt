@@ -1,35 +1,76 @@
-// A line's numbers as a list, and how many bytes they take.
-ghost use Rattle.std.specs.Prelude.{◌≡◌, map, ◌≤◌, length};
-ghost use Rattle.lines.specs.Number.{decimal, some_from};
-ghost use Rattle.lines.specs.Line.{totals, kind_of, first_field, count_of, after_commas, in_edition, opening_length};
-ghost use Rattle.lines.specs.declared.line.Line.TheVariants.{End};
-ghost use Rattle.lines.specs.Inside.Parts.{AreListed, LineListed, most_bytes, most_numbers, most_later};
+// A line's numbers as a list: those that it has in its edition, and those that its edition lacks.
+ghost use Rattle.std.specs.Prelude.{◌≡◌, ◌+◌, ◌≤◌, length, leb, sum_by};
+ghost use Rattle.std.specs.List.{list_any};
+ghost use Rattle.lines.specs.Number.{decimal};
+ghost use Rattle.lines.specs.Line.{totals, kind_of, first_field, count_of};
+ghost use Rattle.lines.specs.Inside.Parts.{parted_at, numbers_parted, most_numbers, most_later};
 
-use crate::line::{EditionLine, Line, Totals};
+use crate::line::{EditionLine, Line};
 use crate::number::width;
 use meter::{CARD_FIELDS, counts_cold, keeps_seconds};
+use std::marker::Model;
 
 // The card's line has the most numbers.
 pub(crate) const MOST_NUMBERS: usize = CARD_FIELDS;
 
-// The numbers that a line can have, the first count of these; and how many of them, from the first on, it has in its edition.
-#[derive(Clone, Copy)]
+// The first count of the numbers are those that a line can have, and of these it has the first shown.
+#[derive(Debug, Drop)]
 pub(crate) struct Listed {
-    pub count: usize,
-    pub shown: usize,
-    pub numbers: [u64; MOST_NUMBERS],
+    numbers: [u64; MOST_NUMBERS],
+    count: usize,
+    shown: usize,
+}
+
+impl Model for Listed {
+    ghost use Rattle.std.specs.Prelude.{◌≤◌, length, take};
+    ghost use Rattle.lines.specs.Inside.Parts.{Parted, parted_at};
+
+    ghost Value = { Parted };
+
+    ghost view = { λ l. parted_at l.shown (take l.count l.numbers) };
+
+    ghost invariant = { λ l. (l.shown ≤ l.count) × (l.count ≤ length l.numbers) };
+}
+
+impl Listed {
+    // The numbers, of which the line has the first shown.
+    fn new(numbers: &[u64], shown: usize) -> Listed
+        requires { (length numbers.now ≤ most_numbers) × (shown ≤ length numbers.now) }
+        ensures { result ≡ parted_at shown numbers.now }
+    {
+        let count = numbers.len();
+        let mut all = [0u64; MOST_NUMBERS];
+        all[..count].copy_from_slice(numbers);
+        Listed {
+            numbers: all,
+            count,
+            shown,
+        }
+    }
+
+    // Those that the line has.
+    pub(crate) fn shown(&self) -> &[u64]
+        ensures { result.now ≡ self.now.shown }
+    {
+        &self.numbers[..self.shown]
+    }
+
+    // Those that its edition lacks.
+    pub(crate) fn lacked(&self) -> &[u64]
+        ensures { result.now ≡ self.now.lacked }
+    {
+        &self.numbers[self.shown..self.count]
+    }
 }
 
 // The numbers of a line in its edition, in the papers' order.
 #[tactic(auto, unfolding(crate::specs::Line::kind_of, crate::specs::Line::count_of, crate::specs::Line::all_numbers_of, meter::specs::Card::fields_of))]
 pub(crate) fn numbers_of(what: EditionLine) -> Listed
-    ensures { LineListed what result }
+    ensures { result ≡ numbers_parted what }
 {
-    let edition = what.edition;
-    let line = what.line;
-    match line {
-        Line::Opening => list(&[edition], 1),
-        Line::Card(c) => list(
+    match what.line {
+        Line::Opening => Listed::new(&[what.edition], 1),
+        Line::Card(c) => Listed::new(
             &[
                 c.serial,
                 c.place,
@@ -46,30 +87,12 @@ pub(crate) fn numbers_of(what: EditionLine) -> Listed
             ],
             CARD_FIELDS,
         ),
-        Line::Sample(s) => list(
+        Line::Sample(s) => Listed::new(
             &[s.pulses, s.seconds, s.supply_reading, s.return_reading],
             4,
         ),
-        Line::End(t) => totals_listed(edition, t),
+        Line::End(t) => Listed::new(&<[u64; 6]>::from(t), totals_count(what.edition)),
     }
-}
-
-// The numbers of line E in an edition.
-#[tactic(auto, unfolding(crate::specs::Line::kind_of, crate::specs::Line::all_numbers_of))]
-fn totals_listed(edition: u64, t: Totals) -> Listed
-    ensures { LineListed (in_edition edition (End t)) result }
-{
-    list(
-        &[
-            t.accepted,
-            t.refused,
-            t.register,
-            t.volume,
-            t.kept_seconds,
-            t.cold_register,
-        ],
-        totals_count(edition),
-    )
 }
 
 // How many numbers line E has in an edition.
@@ -83,62 +106,30 @@ pub(crate) fn totals_count(edition: u64) -> usize
     if keeps_seconds(edition) { 5 } else { 4 }
 }
 
-// The numbers, with zeros after them.
-fn list(numbers: &[u64], shown: usize) -> Listed
-    requires { (length numbers.now ≤ most_numbers) × (shown ≤ length numbers.now) }
-    ensures { AreListed numbers.now shown result }
-{
-    let mut all = [0u64; MOST_NUMBERS];
-    let mut i: usize = 0;
-    while i < numbers.len() {
-        all[i] = numbers[i];
-        i += 1;
-    }
-    Listed {
-        count: numbers.len(),
-        shown: shown,
-        numbers: all,
-    }
-}
-
 // Whether one of the numbers is least or more.
-#[tactic(auto, using(crate::proofs::Listing::from_here, crate::proofs::Listing::from_later, crate::proofs::Listing::from_none))]
 pub(crate) fn has_from(numbers: &[u64], least: u64) -> bool
-    ensures { result ≡ some_from least numbers.now }
+    ensures { result ≡ list_any (λ n. leb least n) numbers.now }
 {
-    let mut i: usize = 0;
-    while i < numbers.len() {
-        if least <= numbers[i] {
-            return true;
-        }
-        i += 1;
-    }
-    false
+    numbers.iter().any(|n| least <= *n)
 }
 
 // How many bytes the numbers take, each with the comma before it.
 pub(crate) fn fields_length(numbers: &[u64]) -> usize
     requires { length numbers.now ≤ most_numbers }
-    ensures { (result ≡ length (after_commas (map decimal numbers.now))) × (result ≤ most_bytes most_numbers) }
+    ensures { result ≡ sum_by (λ n. length (decimal n) + 1) numbers.now }
 {
-    let mut sum: usize = 0;
-    let mut i: usize = 0;
-    while i < numbers.len() {
-        sum += width(numbers[i]) + 1;
-        i += 1;
-    }
-    sum
+    numbers.iter().map(|n| width(*n) + 1).sum()
 }
 
-// How many bytes the line's first field takes.
+// A line's first field.
 #[tactic(auto, unfolding(crate::specs::Line::kind_of, crate::specs::Line::first_field))]
-pub(crate) fn first_length(line: Line) -> usize
-    ensures { (result ≡ length (first_field (kind_of line))) × (result ≤ opening_length) }
+pub(crate) fn first_field(line: Line) -> &'static [u8]
+    ensures { result.now ≡ first_field (kind_of line) }
 {
     match line {
-        Line::Opening => 11,
-        Line::Card(_) => 1,
-        Line::Sample(_) => 1,
-        Line::End(_) => 1,
+        Line::Opening => b"HEATARCHIVE",
+        Line::Card(_) => b"C",
+        Line::Sample(_) => b"S",
+        Line::End(_) => b"E",
     }
 }

@@ -1,7 +1,7 @@
 // One number of a line: its digits, read and written.
 ghost use Rattle.std.specs.Prelude.{◌≡◌, ◌++◌, ◌∷◌, ◌+◌, ◌≤◌, length, drop};
 ghost use Rattle.lines.specs.Bytes.{comma};
-ghost use Rattle.lines.specs.Number.{decimal};
+ghost use Rattle.lines.specs.Number.{decimal, most_digits64};
 ghost use Rattle.lines.specs.Inside.Parts.{Digits, number_at, field_at, last_digits};
 
 const MOST_DIGITS: usize = 18;
@@ -70,17 +70,15 @@ fn checked_number(part: &[u8], value: u64, n: usize) -> Option<Number>
 }
 
 // How many digits x has.
-#[tactic(auto, using(crate::proofs::Decimals::length_one, crate::proofs::Decimals::length_step, crate::proofs::Listing::width_small))]
+#[tactic(auto, using(crate::proofs::Decimals::by_power))]
 pub(crate) fn width(x: u64) -> usize
-    ensures { result ≡ length (decimal x) }
+    ensures counted { result ≡ length (decimal x) }
+    ensures within { result ≤ most_digits64 }
 {
-    let mut k: usize = 1;
-    let mut rest = x;
-    while 10 <= rest {
-        rest /= 10;
-        k += 1;
+    match x.checked_ilog10() {
+        Some(power) => power as usize + 1,
+        None => 1,
     }
-    k
 }
 
 // Puts a comma and x at the front of part, and answers how many bytes that takes.
@@ -101,10 +99,8 @@ fn put_digits(part: &mut [u8], k: usize, x: u64)
     requires { k ≤ length part.old }
     ensures { part.new ≡ last_digits k x ++ drop k part.old }
 {
-    let mut i = k;
     let mut rest = x;
-    while 0 < i {
-        i -= 1;
+    for i in (0..k).rev() {
         part[i] = b'0' + (rest % 10) as u8;
         rest /= 10;
     }

@@ -30,7 +30,9 @@ pub enum Report {
     },
 }
 
-// The first length of the bytes are the line. It comes by value, so that no space of a caller can be too short for it.
+// The first length of the bytes are the line. It comes by value, so that no space of a caller can be too short for it. Array and length stay two
+// fields: the contract gives every byte, also those after the line, which an ArrayVec or a model of the text would not say; and a ghost field with
+// the bound of the length was tried, but then `output_of` of specs/, which is of any text, has to prove it.
 #[derive(Clone, Copy)]
 pub struct OutputLine {
     pub bytes: [u8; LONGEST],
@@ -50,19 +52,19 @@ pub fn report_line(report: Report) -> OutputLine
             refused,
             register,
             volume,
-        } => output_of(b'R', &[serial, accepted, refused, register, volume]),
-        Report::Refusal { number, line } => output_of(b'X', &[number, line]),
+        } => output_of(b"R", &[serial, accepted, refused, register, volume]),
+        Report::Refusal { number, line } => output_of(b"X", &[number, line]),
     }
 }
 
-// The output line of a letter and numbers.
+// The output line of a first field and numbers.
 #[tactic(auto, using(crate::proofs::Reports::line_within), unfolding(crate::specs::Report::output_of))]
-fn output_of(letter: u8, numbers: &[u64]) -> OutputLine
-    requires { length numbers.now ≤ most_reported }
-    ensures answer { result ≡ output_of (text_of (letter ∷ []) numbers.now) }
+fn output_of(first: &[u8], numbers: &[u64]) -> OutputLine
+    requires { (length first.now ≤ 1) × (length numbers.now ≤ most_reported) }
+    ensures answer { result ≡ output_of (text_of first.now numbers.now) }
     ensures within { result.length ≤ longest_output }
 {
     let mut bytes = [0u8; LONGEST];
-    let length = put_text(&mut bytes, 0, letter, numbers);
+    let length = put_text(&mut bytes, 0, first, numbers);
     OutputLine { bytes, length }
 }

@@ -1,16 +1,15 @@
 // The writer of one line (document 01, "Archive text"), in its edition.
-ghost use Rattle.std.specs.Prelude.{◌≡◌, false, ◌||◌, ◌∷◌, [], map, ◌+◌, ◌≤◌, length};
+ghost use Rattle.std.specs.Prelude.{◌≡◌, ◌||◌, ◌∷◌, map, ◌+◌, ◌≤◌, length};
 ghost use Rattle.quantity.specs.Refusals.{first_of};
-ghost use Rattle.meter.specs.Edition.{is_other_edition};
 ghost use Rattle.lines.specs.Bytes.{comma};
 ghost use Rattle.lines.specs.Number.{decimal, some_long, some_nonzero};
-ghost use Rattle.lines.specs.Line.{kind_of, first_field, numbers_of, lacked_of, after_commas, text_of, bytes_of, content_rows};
+ghost use Rattle.lines.specs.Line.{after_commas, text_of, bytes_of, content_rows};
+ghost use Rattle.lines.specs.Inside.Parts.{most_numbers};
 ghost use Rattle.lines.specs.Writing.{text_rows, write_rows, written_of, put_at, buffer_after};
 
 use crate::line::{EditionLine, Line, Written};
-use crate::listed::{fields_length, first_length, has_from, numbers_of};
+use crate::listed::{Listed, fields_length, first_field, has_from, numbers_of};
 use crate::number::{LEAST_LONG, put_field};
-use crate::opening::OPENING_LENGTH;
 use meter::is_other_edition;
 use quantity::Outcome;
 
@@ -20,8 +19,7 @@ pub fn write_line(buf: &mut [u8], at: usize, what: EditionLine) -> Written
     ensures answer { result ≡ written_of (length buf.old) at what }
     ensures buffer { buf.new ≡ buffer_after buf.old at (bytes_of what) result }
 {
-    let refusal = write_refusal(buf.len(), at, what);
-    match refusal {
+    match write_refusal(buf.len(), at, what) {
         Outcome::Accepted => Written::Next(put_line(buf, at, what)),
         Outcome::Refused(number) => Written::Refused(number),
     }
@@ -38,9 +36,7 @@ fn write_refusal(size: usize, at: usize, what: EditionLine) -> Outcome
     if is_other_edition(what.edition) {
         return Outcome::Refused(60);
     }
-    let line = what.line;
-    let content = content_refusal(line);
-    match content {
+    match content_refusal(what.line) {
         Outcome::Accepted => text_refusal(size - at, what),
         Outcome::Refused(number) => Outcome::Refused(number),
     }
@@ -52,10 +48,8 @@ pub(crate) fn content_refusal(line: Line) -> Outcome
     ensures { result ≡ first_of (content_rows line) }
 {
     match line {
-        Line::Opening => Outcome::Accepted,
         Line::Card(card) => card.refusal(),
-        Line::Sample(_) => Outcome::Accepted,
-        Line::End(_) => Outcome::Accepted,
+        Line::Opening | Line::Sample(_) | Line::End(_) => Outcome::Accepted,
     }
 }
 
@@ -64,69 +58,57 @@ fn text_refusal(room: usize, what: EditionLine) -> Outcome
     ensures { result ≡ first_of (text_rows room what) }
 {
     let listed = numbers_of(what);
-    let shown = listed.shown;
-    let numbers = listed.numbers;
-    let line = what.line;
-    let size = first_length(line) + fields_length(&numbers[..shown]) + 1;
-    let r = Outcome::Accepted.or_row(has_refused_number(what), 62);
+    let size = text_length(first_field(what.line), listed.shown());
+    let r = Outcome::Accepted.or_row(has_refused_number(&listed), 62);
     r.or_row(room < size, 66)
 }
 
-// Whether a number of the line has over 18 digits, or one that its edition lacks is other than zero.
-#[tactic(auto, using(crate::proofs::Listing::shown_are, crate::proofs::Listing::lacked_are))]
-fn has_refused_number(what: EditionLine) -> bool
-    ensures { result ≡ (some_long (numbers_of what) || some_nonzero (lacked_of what)) }
+// How many bytes the first field, the numbers and the line's end take.
+#[tactic(auto, using(crate::proofs::Listing::text_size, crate::proofs::Listing::fields_small))]
+fn text_length(first: &[u8], numbers: &[u64]) -> usize
+    requires { length numbers.now ≤ most_numbers }
+    ensures { result ≡ length (text_of first.now numbers.now) }
 {
-    let listed = numbers_of(what);
-    let count = listed.count;
-    let shown = listed.shown;
-    let numbers = listed.numbers;
-    if has_from(&numbers[..shown], LEAST_LONG) {
-        return true;
-    }
-    has_from(&numbers[shown..count], 1)
+    first.len() + fields_length(numbers) + 1
+}
+
+// Whether a number of the line has over 18 digits, or one that its edition lacks is other than zero.
+fn has_refused_number(listed: &Listed) -> bool
+    ensures { result ≡ (some_long listed.now.shown || some_nonzero listed.now.lacked) }
+{
+    has_from(listed.shown(), LEAST_LONG) || has_from(listed.lacked(), 1)
 }
 
 // Puts a line for which there is room.
-#[tactic(auto, unfolding(crate::specs::Line::kind_of, crate::specs::Line::first_field))]
 fn put_line(buf: &mut [u8], at: usize, what: EditionLine) -> usize
-    requires { (at + length (bytes_of what) ≤ length buf.old) × (is_other_edition what.edition ≡ false) }
-    ensures { (result ≡ at + length (bytes_of what)) × (buf.new ≡ put_at buf.old at (bytes_of what)) }
-{
-    let line = what.line;
-    match line {
-        Line::Opening => {
-            
-            at + OPENING_LENGTH
-        }
-        Line::Card(_) => put_listed(buf, at, b'C', what),
-        Line::Sample(_) => put_listed(buf, at, b'S', what),
-        Line::End(_) => put_listed(buf, at, b'E', what),
-    }
-}
-
-// Puts a line whose first field is the letter.
-#[tactic(auto, using(crate::proofs::Listing::listed_text))]
-fn put_listed(buf: &mut [u8], at: usize, letter: u8, what: EditionLine) -> usize
-    requires { (at + length (bytes_of what) ≤ length buf.old) × (first_field (kind_of what.line) ≡ letter ∷ []) }
+    requires { at + length (bytes_of what) ≤ length buf.old }
     ensures { (result ≡ at + length (bytes_of what)) × (buf.new ≡ put_at buf.old at (bytes_of what)) }
 {
     let listed = numbers_of(what);
-    let shown = listed.shown;
-    let numbers = listed.numbers;
-    put_text(buf, at, letter, &numbers[..shown])
+    put_text(buf, at, first_field(what.line), listed.shown())
 }
 
-// Puts a letter, the numbers and the line's end.
+// Puts the first field, the numbers and the line's end.
 #[tactic(auto, using(crate::proofs::Listing::fields_room, crate::proofs::Listing::end_room))]
-pub(crate) fn put_text(buf: &mut [u8], at: usize, letter: u8, numbers: &[u64]) -> usize
-    requires { at + length (text_of (letter ∷ []) numbers.now) ≤ length buf.old }
-    ensures { (result ≡ at + length (text_of (letter ∷ []) numbers.now)) × (buf.new ≡ put_at buf.old at (text_of (letter ∷ []) numbers.now)) }
+pub(crate) fn put_text(buf: &mut [u8], at: usize, first: &[u8], numbers: &[u64]) -> usize
+    requires { at + length (text_of first.now numbers.now) ≤ length buf.old }
+    ensures { (result ≡ at + length (text_of first.now numbers.now)) × (buf.new ≡ put_at buf.old at (text_of first.now numbers.now)) }
 {
-    buf[at] = letter;
-    let place = put_fields(buf, at + 1, numbers);
-    buf[place] = b'\n';
-    place + 1
+    let place = put_bytes(buf, at, first);
+    let end = put_fields(buf, place, numbers);
+    buf[end] = b'\n';
+    end + 1
+}
+
+// Puts bytes from the place at on, and answers the next place.
+#[tactic(auto, unfolding(crate::specs::Writing::put_at))]
+fn put_bytes(buf: &mut [u8], at: usize, bytes: &[u8]) -> usize
+    requires { at + length bytes.now ≤ length buf.old }
+    ensures { (result ≡ at + length bytes.now) × (buf.new ≡ put_at buf.old at bytes.now) }
+{
+    let next = at + bytes.len();
+    buf[at..next].copy_from_slice(bytes);
+    next
 }
 
 // Puts the numbers, each after a comma.
@@ -136,10 +118,8 @@ fn put_fields(buf: &mut [u8], at: usize, numbers: &[u64]) -> usize
     ensures { (result ≡ at + length (after_commas (map decimal numbers.now))) × (buf.new ≡ put_at buf.old at (after_commas (map decimal numbers.now))) }
 {
     let mut place = at;
-    let mut i: usize = 0;
-    while i < numbers.len() {
-        place = put_at(buf, place, numbers[i]);
-        i += 1;
+    for number in numbers {
+        place = put_at(buf, place, *number);
     }
     place
 }

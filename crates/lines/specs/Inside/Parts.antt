@@ -1,14 +1,13 @@
 -- What the functions inside reader and writer answer.
-use Rattle.std.specs.Prelude.{◌≡◌, ℕ, zero, suc, ◌+◌, ◌*◌, ◌/◌, ◌%◌, ◌≤◌, ◌<◌, cond, List, [], ◌∷◌, ◌++◌, ◌⊎◌, Option, Some, None, Result, Ok, Err, eqb, length, get_or, take}
+use Rattle.std.specs.Prelude.{◌≡◌, ℕ, zero, suc, ◌+◌, ◌*◌, ◌/◌, ◌%◌, cond, List, [], ◌∷◌, ◌++◌, Option, Some, None, Result, Ok, Err, eqb, length, take, drop}
 use Rattle.quantity.specs.Refusals.{first_of}
 use Rattle.quantity.specs.declared.refusal.Outcome.TheVariants as O
 use Rattle.meter.specs.Card.{card_fields}
-use Rattle.lines.specs.Bytes.{comma, digit_zero, letter_e, letter_s}
+use Rattle.lines.specs.Bytes.{comma, digit_zero}
 use Rattle.lines.specs.Number.{most_digits64, is_digit, most_digits, is_number, value_of}
 use Rattle.lines.specs.Line.{LineKind, card, sample, totals, kind_of, count_of, all_numbers_of, in_edition, content_rows, line_of}
 use Rattle.lines.specs.Reading.{shape_rows, numbers_in, size_of, answer_of}
 use Rattle.lines.specs.declared.line.EditionLine.{EditionLine}
-use Rattle.lines.specs.declared.listed.Listed.{Listed}
 use Rattle.lines.specs.declared.number.Number.{Number}
 use Rattle.lines.specs.declared.kind.Kind.{Kind}
 use Rattle.lines.specs.declared.kind.Kind.TheVariants as K
@@ -78,16 +77,16 @@ most_bytes count = (1 + most_digits64) * count
 abbrev pub most_numbers : ℕ
 most_numbers = card_fields
 
--- numbers as the code lists them: the first count of as many as a line can have, and how many of these it has
-pub record AreListed (ns : List ℕ) (shown : ℕ) (l : Listed) : Type 0 where
-  pub few : l.count ≤ most_numbers
-  pub long : length l.numbers ≡ most_numbers
-  pub are : take l.count l.numbers ≡ ns
-  pub shown_is : l.shown ≡ shown
-  pub shown_few : l.shown ≤ l.count
+-- numbers that a line can have, parted: those that it has, and those that it lacks
+pub record Parted : Type 0 where
+  pub shown : List ℕ
+  pub lacked : List ℕ
 
-abbrev pub LineListed : EditionLine → Listed → Type 0
-LineListed line l = AreListed (all_numbers_of line) (count_of line.edition (kind_of line.line)) l
+abbrev pub parted_at : ℕ → List ℕ → Parted
+parted_at n ns = record { shown = take n ns; lacked = drop n ns }
+
+abbrev pub numbers_parted : EditionLine → Parted
+numbers_parted line = parted_at (count_of line.edition (kind_of line.line)) (all_numbers_of line)
 
 -- line E has no more numbers than it has in the newest edition
 abbrev pub most_later : ℕ

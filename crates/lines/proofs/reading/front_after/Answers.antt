@@ -1,5 +1,5 @@
 -- The numbers that were read, with zeros after them, say the line; a refusal is the line's.
-use Rattle.std.proofs.Common.{◌∙◌, sym, arith, ap}
+use Rattle.std.proofs.Common.{◌∙◌, sym, arith}
 use Rattle.std.proofs.Math.Seq.{length-take-le}
 use Rattle.lines.specs.Inside.Parts.{most_numbers}
 use Rattle.lines.proofs.Letters.{none_after, within_after, read_after, content_after}

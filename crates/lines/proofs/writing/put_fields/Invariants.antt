@@ -1,10 +1,6 @@
--- The loop's invariant: the first i numbers, each after its comma, were put from at on, and place is behind them.
-use Rattle.std.proofs.Common.{◌-◌, length}
+-- The loop's invariant: the numbers before the index, each after its comma, were put from at on, and place is behind them.
 use Rattle.lines.proofs.Listing.{Progress}
 use Rattle.lines.proofs.writing.put_fields.Given as goal
 
-abbrev pub invariant-loop-i : goal.invariant-loop-i
-invariant-loop-i l = Progress l.initial.buf l.at l.numbers l.buf l.place l.i
-
-abbrev pub decreases-loop-i : goal.decreases-loop-i
-decreases-loop-i l = length l.numbers - l.i
+abbrev pub invariant-loop-number : goal.invariant-loop-number
+invariant-loop-number l = Progress l.initial.buf l.at l.numbers l.buf l.place l.number-index
