@@ -1,11 +1,11 @@
 -- A line by what follows its letter, as the code reads it.
 -- Assumes nothing.
 use mathlib.Core.Path.{◌≡◌, refl, sym, ap, ◌∙◌}
-use mathlib.Core.Bool.{true, false}
+use mathlib.Core.Bool.{false}
 use mathlib.Core.List.{List, [], ◌∷◌, ◌++◌, map}
-use Prim.Native.Nat.{ℕ, ◌+◌, ◌≤◌, ◌<◌}
+use Prim.Native.Nat.{ℕ, ◌+◌, ◌<◌}
 use native.Mathlib.Omega.{arith}
-use lib.ListN.{length, get_or, drop, length-append}
+use lib.ListN.{length, get_or, drop}
 use borrow.Author.Tests.{eq-eqb, ne_eqb}
 use Rattle.std.proofs.Common.{Result, Ok, Err}
 use Rattle.quantity.specs.Refusals.{first_of}
@@ -13,15 +13,13 @@ use Rattle.quantity.specs.declared.refusal.Outcome.{Outcome}
 use Rattle.quantity.specs.declared.refusal.Outcome.TheVariants.{Accepted, Refused}
 use Rattle.quantity.proofs.Rows.{parts, or_else}
 use Rattle.lines.specs.Bytes.{line_feed, comma}
-use Rattle.lines.specs.Number.{decimal, value_of}
-use Rattle.lines.specs.Line.{LineKind, opening, card, sample, totals, first_field, in_edition, content_rows, count_of, after_commas, card_of, line_of}
+use Rattle.lines.specs.Number.{value_of}
+use Rattle.lines.specs.Line.{LineKind, opening, card, sample, totals, first_field, in_edition, content_rows, count_of, card_of, line_of}
 use Rattle.lines.specs.Reading.{is_same, until_end, is_ended, size_of, with_first, split, fields_in, first_in, others_in, numbers_in, is_misshapen, shape_rows, line_rows, answer_of}
-use Rattle.lines.specs.Inside.Parts.{NumbersRead, all_read, line_refused, kind_after, after_letter}
-use Rattle.lines.specs.declared.kind.Kind.{Kind}
+use Rattle.lines.specs.Inside.Parts.{NumbersRead, all_read, line_refused, after_letter}
 use Rattle.lines.specs.declared.line.Line.{Line}
 use Rattle.lines.specs.declared.line.Front.TheVariants as F
-use Rattle.lines.proofs.Splitting.{split_parted, is_ended_lem, ended_bytes}
-use Rattle.lines.proofs.Shape.{shape_forth}
+use Rattle.lines.proofs.Splitting.{split_parted}
 use Rattle.lines.proofs.Shown.{AreZero, zero_after}
 use Rattle.lines.proofs.Faults.{misshapen_first, first_of_lem, others_first}
 
@@ -57,37 +55,37 @@ module _ (b : ℕ) (after : List ℕ) (apart : comma < b) where
   shape_letter count = rw (others_letter, same_letter) (simp (ne_eqb b line_feed (λ e. omega arith)))
 
 -- the reader's rows, by what follows the letter of a kind
-pub by_letter : (e : ℕ) (k : Kind) (b : ℕ) (after : List ℕ) → comma < b → first_field (kind_after k) ≡ b ∷ []
-    → answer_of (in_edition e (line_of (kind_after k) (numbers_in (b ∷ after)))) (size_of (b ∷ after)) (first_of (line_rows e (kind_after k) (b ∷ after)))
+pub by_letter : (e : ℕ) (k : LineKind) (b : ℕ) (after : List ℕ) → comma < b → first_field k ≡ b ∷ []
+    → answer_of (in_edition e (line_of k (numbers_in (b ∷ after)))) (size_of (b ∷ after)) (first_of (line_rows e k (b ∷ after)))
     ≡ after_letter e k after
 unfolding line_rows after_letter
-by_letter e k b after c f = rw (f, shape_letter b after c (count_of e (kind_after k)), numbers_letter b after c, size_letter b after c)
+by_letter e k b after c f = rw (f, shape_letter b after c (count_of e k), numbers_letter b after c, size_letter b after c)
 
 -- ---- what `read_numbers` answered
 
-module _ (e : ℕ) (k : Kind) (after : List ℕ) where
+module _ (e : ℕ) (k : LineKind) (after : List ℕ) where
   abbrev shape : Outcome
-  shape = first_of (shape_rows [] (count_of e (kind_after k)) after)
+  shape = first_of (shape_rows [] (count_of e k) after)
 
   abbrev said : Line
-  said = line_of (kind_after k) (numbers_in after)
+  said = line_of k (numbers_in after)
 
   by_shape : after_letter e k after ≡ answer_of (in_edition e said) (size_of after + 1) (or_else shape (first_of (content_rows said)))
   unfolding after_letter
-  by_shape = ap (answer_of (in_edition e said) (size_of after + 1)) (parts (shape_rows [] (count_of e (kind_after k)) after) (content_rows said))
+  by_shape = ap (answer_of (in_edition e said) (size_of after + 1)) (parts (shape_rows [] (count_of e k) after) (content_rows said))
 
   refused_shape : (r : ℕ) → shape ≡ Refused r → after_letter e k after ≡ F.Refused r
   unfolding answer_of
   refused_shape r h = by_shape ∙ rw h
 
 -- a first field that goes on after the letter is refused with 61
-pub other_first : (e : ℕ) (k : Kind) (b : ℕ) (after : List ℕ) → comma < b → is_same (first_in (b ∷ after)) (b ∷ []) ≡ false → after_letter e k after ≡ F.Refused 61
+pub other_first : (e : ℕ) (k : LineKind) (b : ℕ) (after : List ℕ) → comma < b → is_same (first_in (b ∷ after)) (b ∷ []) ≡ false → after_letter e k after ≡ F.Refused 61
 unfolding shape_rows first_of
 other_first e k b after c h =
-    refused_shape e k after 61 (simp (misshapen_first [] (count_of e (kind_after k)) after (sym (same_letter b after c) ∙ h)))
+    refused_shape e k after 61 (simp (misshapen_first [] (count_of e k) after (sym (same_letter b after c) ∙ h)))
 
 -- zeros after a line's numbers change nothing
-padded : (k : LineKind) (ns zs : List ℕ) → AreZero zs → line_of k (ns ++ zs) ≡ line_of k ns
+pub padded : (k : LineKind) (ns zs : List ℕ) → AreZero zs → line_of k (ns ++ zs) ≡ line_of k ns
 unfolding line_of card_of
 padded opening ns zs z = refl
 padded card ns zs z = simp (zero_after ns zs z)
@@ -95,7 +93,7 @@ padded sample ns zs z = simp (zero_after ns zs z)
 padded totals ns zs z = simp (zero_after ns zs z)
 
 all_numbers : (after out : List ℕ) (x : Result ℕ ℕ) (n : ℕ) → NumbersRead after out x → x ≡ Ok n
-    → (first_of (shape_rows [] (length out) after) ≡ Accepted) × ((out ≡ numbers_in after) × (n ≡ size_of after))
+    → (first_of (shape_rows [] (length out) after) ≡ Accepted) × ((out ≡ numbers_in after) × (n ≡ size_of after + 1))
 all_numbers after out x n (all_read e f) g = (e, (f, sym (cc g)))
 all_numbers after out x n (line_refused r e) g = absurd (let z : ◌≡◌ {A = ℕ} 0 1 = cc g in omega arith)
 
@@ -103,35 +101,23 @@ no_numbers : (after out : List ℕ) (x : Result ℕ ℕ) (r : ℕ) → NumbersRe
 no_numbers after out x r (all_read e f) g = absurd (let z : ◌≡◌ {A = ℕ} 0 1 = cc g in omega arith)
 no_numbers after out x r (line_refused s e) g = let k : s ≡ r = cc g in rw k at e
 
--- the line ends within the bytes
-size_within : (count : ℕ) (after : List ℕ) → first_of (shape_rows [] count after) ≡ Accepted → size_of after ≤ length after
-unfolding size_of
-size_within count after h =
-    let l = shape_forth [] count after h in
-    let ended : is_ended after ≡ true = ap is_ended l.bytes ∙ is_ended_lem (drop (size_of after) after) (after_commas (map decimal (numbers_in after))) in
-    let parted = ended_bytes after ended in
-    omega (arith, ap length parted ∙ length-append (until_end after) (line_feed ∷ drop (size_of after) after))
-
-module _ (e : ℕ) (k : Kind) (after out : List ℕ) (x : Result ℕ ℕ) (h : NumbersRead after out x) (c : length out ≡ count_of e (kind_after k)) where
+module _ (e : ℕ) (k : LineKind) (after out : List ℕ) (x : Result ℕ ℕ) (h : NumbersRead after out x) (c : length out ≡ count_of e k) where
   pub none_after : (r : ℕ) → x ≡ Err r → F.Refused r ≡ after_letter e k after
   none_after r g = sym (refused_shape e k after r (rw c at (no_numbers after out x r h g)))
 
-  pub within_after : (n : ℕ) → x ≡ Ok n → n ≤ length after
-  within_after n g = let a = all_numbers after out x n h g in omega (arith, size_within (length out) after a.0, a.1.1)
-
-  -- the places after the numbers that were read are zero
-  module _ (n : ℕ) (g : x ≡ Ok n) (zeros : List ℕ) (z : AreZero zeros) (line : Line) (f : line ≡ line_of (kind_after k) (out ++ zeros)) where
-    content_decides : answer_of (in_edition e line) (n + 1) (first_of (content_rows line)) ≡ after_letter e k after
+  -- where the numbers with what is put after them say the line that they say
+  module _ (n : ℕ) (g : x ≡ Ok n) (line : Line) (f : line ≡ line_of k out) where
+    content_decides : answer_of (in_edition e line) n (first_of (content_rows line)) ≡ after_letter e k after
     content_decides =
         let a = all_numbers after out x n h g in
-        let same : line ≡ line_of (kind_after k) (numbers_in after) = f ∙ padded (kind_after k) out zeros z ∙ ap (line_of (kind_after k)) a.1.0 in
-        let accepted : first_of (shape_rows [] (count_of e (kind_after k)) after) ≡ Accepted = rw c at a.0 in
+        let same : line ≡ line_of k (numbers_in after) = f ∙ ap (line_of k) a.1.0 in
+        let accepted : first_of (shape_rows [] (count_of e k) after) ≡ Accepted = rw c at a.0 in
         rw (same, a.1.1) (sym (by_shape e k after ∙ rw accepted))
 
-    pub read_after : Accepted ≡ first_of (content_rows line) → F.Read (in_edition e line) (n + 1) ≡ after_letter e k after
+    pub read_after : Accepted ≡ first_of (content_rows line) → F.Read (in_edition e line) n ≡ after_letter e k after
     unfolding answer_of
-    read_after o = ap (answer_of (in_edition e line) (n + 1)) o ∙ content_decides
+    read_after o = ap (answer_of (in_edition e line) n) o ∙ content_decides
 
-    pub content_after : (r : ℕ) → Refused r ≡ first_of (content_rows line) → F.Refused r ≡ after_letter e k after
+    pub refused_after : (r : ℕ) → Refused r ≡ first_of (content_rows line) → F.Refused r ≡ after_letter e k after
     unfolding answer_of
-    content_after r o = ap (answer_of (in_edition e line) (n + 1)) o ∙ content_decides
+    refused_after r o = ap (answer_of (in_edition e line) n) o ∙ content_decides

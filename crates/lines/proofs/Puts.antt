@@ -5,9 +5,9 @@ use mathlib.Core.List.{List, [], ◌∷◌, ◌++◌, append_assoc, append-nil}
 use Prim.Native.Nat.{ℕ, suc, ◌+◌, ◌-◌, ◌/◌, ◌%◌, ◌≤◌, ◌<◌}
 use native.Mathlib.Omega.{arith}
 use native.Mathlib.Numerals.{add-one}
-use lib.ListN.{length, get_or, take, drop, set, length-append, length-take, length-drop, length-set, take-append-drop, drop_of_length-le}
-use lib.Seq.{set_at, drop-cons, get_or-set_same, drop-set-lt, set_split, take_all, drop-drop, take_at, drop_at, length-take-le, drop-length, take-suc}
-use Rattle.lines.specs.Bytes.{comma, digit_zero}
+use lib.ListN.{length, take, drop, set, length-append, length-take, length-drop, take-append-drop, drop_of_length-le}
+use lib.Seq.{set_split, take_all, drop-drop, take_at, drop_at, drop-length}
+use Rattle.lines.specs.Bytes.{comma}
 use Rattle.lines.specs.Number.{decimal}
 use Rattle.lines.specs.Writing.{put_at}
 use Rattle.lines.specs.Inside.Parts.{last_digits}

@@ -15,8 +15,7 @@ use Rattle.meter.specs.Edition.{is_other_edition}
 use Rattle.lines.specs.Bytes.{line_feed, comma, letter_c, letter_e, letter_s}
 use Rattle.lines.specs.Line.{LineKind, card, sample, totals, first_field, bytes_of, opening_in, in_edition, content_rows, opening_length, count_of, line_of}
 use Rattle.lines.specs.Reading.{is_same, until_end, size_of, split, fields_in, first_in, numbers_in, shape_rows, edition_in, due_kind, line_in, line_rows, later_rows, read_rows, answer_of, read_of}
-use Rattle.lines.specs.Inside.Parts.{kind_after, after_letter}
-use Rattle.lines.specs.declared.kind.Kind.TheVariants as K
+use Rattle.lines.specs.Inside.Parts.{after_letter}
 use Rattle.lines.specs.declared.line.MayCome.{MayCome}
 use Rattle.lines.specs.declared.line.MayCome.TheVariants as M
 use Rattle.lines.specs.declared.line.Front.TheVariants as F
@@ -102,9 +101,9 @@ module _ (may : MayCome) (bs : List ℕ) (o : is_other_edition (edition_in may b
 -- ---- by the first byte, where the edition was told
 
 module _ (e : ℕ) (o : is_other_edition e ≡ false) where
-  card_read : (after : List ℕ) → read_of (M.Card e) (letter_c ∷ after) ≡ after_letter e K.Card after
-  unfolding edition_in due_kind later_rows kind_after first_field
-  card_read after = by_due (M.Card e) (letter_c ∷ after) o card refl refl ∙ by_letter e K.Card letter_c after (omega arith) refl
+  card_read : (after : List ℕ) → read_of (M.Card e) (letter_c ∷ after) ≡ after_letter e card after
+  unfolding edition_in due_kind later_rows first_field
+  card_read after = by_due (M.Card e) (letter_c ∷ after) o card refl refl ∙ by_letter e card letter_c after (omega arith) refl
 
   card_wrong : (bs : List ℕ) → (get_or bs 0 0 ≡ letter_c → ⊥) → read_of (M.Card e) bs ≡ F.Refused 61
   unfolding edition_in due_kind later_rows first_field
@@ -114,26 +113,26 @@ module _ (e : ℕ) (o : is_other_edition e ≡ false) where
   unfolding due_kind first_field
   sample_due bs h = rw (other_letter letter_e bs h)
 
-  sample_read : (after : List ℕ) → read_of (M.SampleOrEnd e) (letter_s ∷ after) ≡ after_letter e K.Sample after
-  unfolding edition_in later_rows kind_after first_field
+  sample_read : (after : List ℕ) → read_of (M.SampleOrEnd e) (letter_s ∷ after) ≡ after_letter e sample after
+  unfolding edition_in later_rows first_field
   sample_read after =
       by_due (M.SampleOrEnd e) (letter_s ∷ after) o sample (sample_due (letter_s ∷ after) (λ g. omega arith)) refl
-      ∙ by_letter e K.Sample letter_s after (omega arith) refl
+      ∙ by_letter e sample letter_s after (omega arith) refl
 
   later_wrong : (bs : List ℕ) → (get_or bs 0 0 ≡ letter_s → ⊥) → (get_or bs 0 0 ≡ letter_e → ⊥) → read_of (M.SampleOrEnd e) bs ≡ F.Refused 61
   unfolding edition_in later_rows first_field
   later_wrong bs h g = wrong_first (M.SampleOrEnd e) bs o sample (sample_due bs g) refl (other_letter letter_s bs h)
 
   -- where the first field goes on after E, a sample's line is due, and both are refused alike
-  end_read : (after : List ℕ) → read_of (M.SampleOrEnd e) (letter_e ∷ after) ≡ after_letter e K.End after
-  unfolding edition_in due_kind later_rows kind_after first_field
+  end_read : (after : List ℕ) → read_of (M.SampleOrEnd e) (letter_e ∷ after) ≡ after_letter e totals after
+  unfolding edition_in due_kind later_rows first_field
   end_read after = go (is_same (first_in (letter_e ∷ after)) (letter_e ∷ [])) refl
     where
-      go : (t : Bool) → is_same (first_in (letter_e ∷ after)) (letter_e ∷ []) ≡ t → read_of (M.SampleOrEnd e) (letter_e ∷ after) ≡ after_letter e K.End after
-      go true t = by_due (M.SampleOrEnd e) (letter_e ∷ after) o totals (rw t) refl ∙ by_letter e K.End letter_e after (omega arith) refl
+      go : (t : Bool) → is_same (first_in (letter_e ∷ after)) (letter_e ∷ []) ≡ t → read_of (M.SampleOrEnd e) (letter_e ∷ after) ≡ after_letter e totals after
+      go true t = by_due (M.SampleOrEnd e) (letter_e ∷ after) o totals (rw t) refl ∙ by_letter e totals letter_e after (omega arith) refl
       go false t =
           wrong_first (M.SampleOrEnd e) (letter_e ∷ after) o sample (rw t) refl (other_letter letter_s (letter_e ∷ after) (λ g. omega arith))
-          ∙ sym (other_first e K.End letter_e after (omega arith) t)
+          ∙ sym (other_first e totals letter_e after (omega arith) t)
 
 -- the same where what was told is matched, and what follows the letter was lent on
 module _ (may : MayCome) (bs : List ℕ) (e : ℕ) (o : is_other_edition e ≡ false) (p : e ≡ edition_in may bs) (x : ℕ) where
@@ -155,7 +154,7 @@ module _ (may : MayCome) (bs : List ℕ) (e : ℕ) (o : is_other_edition e ≡ f
     unfolding edition_in
     as_card = as_told (λ k. M.Card k) refl m
 
-    pub card_front : 0 < length bs → get_or bs 0 0 ≡ letter_c → after_letter e K.Card (take (length bs - 1) (drop 1 bs)) ≡ read_of may bs
+    pub card_front : 0 < length bs → get_or bs 0 0 ≡ letter_c → after_letter e card (take (length bs - 1) (drop 1 bs)) ≡ read_of may bs
     card_front h g = sym (card_read e o (take (length bs - 1) (drop 1 bs))) ∙ ap (read_of (M.Card e)) (lent h letter_c g) ∙ as_card
 
     pub card_other : (get_or bs 0 0 ≡ letter_c → ⊥) → F.Refused 61 ≡ read_of may bs
@@ -169,10 +168,10 @@ module _ (may : MayCome) (bs : List ℕ) (e : ℕ) (o : is_other_edition e ≡ f
     unfolding edition_in
     as_later = as_told (λ k. M.SampleOrEnd k) refl m
 
-    pub sample_front : 0 < length bs → get_or bs 0 0 ≡ letter_s → after_letter e K.Sample (take (length bs - 1) (drop 1 bs)) ≡ read_of may bs
+    pub sample_front : 0 < length bs → get_or bs 0 0 ≡ letter_s → after_letter e sample (take (length bs - 1) (drop 1 bs)) ≡ read_of may bs
     sample_front h g = sym (sample_read e o (take (length bs - 1) (drop 1 bs))) ∙ ap (read_of (M.SampleOrEnd e)) (lent h letter_s g) ∙ as_later
 
-    pub end_front : 0 < length bs → get_or bs 0 0 ≡ letter_e → after_letter e K.End (take (length bs - 1) (drop 1 bs)) ≡ read_of may bs
+    pub end_front : 0 < length bs → get_or bs 0 0 ≡ letter_e → after_letter e totals (take (length bs - 1) (drop 1 bs)) ≡ read_of may bs
     end_front h g = sym (end_read e o (take (length bs - 1) (drop 1 bs))) ∙ ap (read_of (M.SampleOrEnd e)) (lent h letter_e g) ∙ as_later
 
     pub later_other : (get_or bs 0 0 ≡ letter_s → ⊥) → (get_or bs 0 0 ≡ letter_e → ⊥) → F.Refused 61 ≡ read_of may bs

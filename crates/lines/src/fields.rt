@@ -4,7 +4,7 @@ ghost use Rattle.lines.specs.Inside.Parts.{NumbersRead};
 use crate::fault::fault_number;
 use crate::number::read_field;
 
-// Reads the numbers after a line's letter into out, as many as it holds, and answers how many bytes they and the line's end take, or the
+// Reads the numbers after a line's letter into out, as many as it holds, and answers how many bytes the line takes, its letter among them, or the
 // refusal's number.
 #[tactic(auto, using(crate::proofs::Turns::ends))]
 pub(crate) fn read_numbers(after: &[u8], out: &mut [u64]) -> Result<usize, u64>
@@ -20,7 +20,7 @@ pub(crate) fn read_numbers(after: &[u8], out: &mut [u64]) -> Result<usize, u64>
         at += number.size;
     }
     if after.get(at) == Some(&b'\n') {
-        Ok(at + 1)
+        Ok(at + 2)
     } else {
         Err(fault_number(after, count))
     }

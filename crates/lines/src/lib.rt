@@ -4,7 +4,6 @@
 mod fault;
 mod fields;
 mod held;
-mod kind;
 mod line;
 mod listed;
 mod number;

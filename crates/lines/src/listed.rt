@@ -13,6 +13,9 @@ use std::marker::Model;
 // The card's line has the most numbers.
 pub(crate) const MOST_NUMBERS: usize = CARD_FIELDS;
 
+// Of the lines after it, the last one has the most, in the newest edition.
+pub(crate) const MOST_LATER: usize = 6;
+
 // The first count of the numbers are those that a line can have, and of these it has the first shown.
 #[derive(Debug, Drop)]
 pub(crate) struct Listed {

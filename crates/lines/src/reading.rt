@@ -1,15 +1,14 @@
 // The reader of one line (document 01, "Archive text"), by its edition.
 ghost use Rattle.std.specs.Prelude.{◌≡◌, drop};
+ghost use Rattle.lines.specs.Line.{card, sample, totals};
 ghost use Rattle.lines.specs.Reading.{edition_in, read_of, rest_of};
 ghost use Rattle.lines.specs.Inside.Parts.{after_letter};
 
 use crate::fields::read_numbers;
-use crate::kind::Kind;
-use crate::line::{EditionLine, Front, Line, MayCome};
-use crate::listed::MOST_NUMBERS;
+use crate::line::{EditionLine, Front, Line, MayCome, Totals};
+use crate::listed::{MOST_LATER, totals_count};
 use crate::opening::{OPENING_LENGTH, opened_edition};
-use crate::writing::content_refusal;
-use meter::is_other_edition;
+use meter::{CARD_FIELDS, Card, Sample, is_other_edition};
 use quantity::Outcome;
 
 // What stands at the front of bytes, told what may come. Another edition is met before all else.
@@ -30,12 +29,12 @@ pub fn front_line(bytes: &[u8], may_come: MayCome) -> Front
             OPENING_LENGTH,
         ),
         MayCome::Card(_) => match bytes {
-            [b'C', after @ ..] => front_after(after, edition, Kind::Card),
+            [b'C', after @ ..] => front_card(after, edition),
             _ => Front::Refused(61),
         },
         MayCome::SampleOrEnd(_) => match bytes {
-            [b'S', after @ ..] => front_after(after, edition, Kind::Sample),
-            [b'E', after @ ..] => front_after(after, edition, Kind::End),
+            [b'S', after @ ..] => front_sample(after, edition),
+            [b'E', after @ ..] => front_end(after, edition),
             _ => Front::Refused(61),
         },
     }
@@ -52,19 +51,67 @@ fn edition_in(bytes: &[u8], may_come: MayCome) -> u64
     }
 }
 
-// A line of a kind, by what follows its letter. The rows of the line's content, a card's, come after those of its shape.
-fn front_after(after: &[u8], edition: u64, kind: Kind) -> Front
-    ensures { result ≡ after_letter edition kind after.now }
+// The card's line, by what follows its letter. The card's own rows come after those of the line's shape.
+fn front_card(after: &[u8], edition: u64) -> Front
+    ensures { result ≡ after_letter edition card after.now }
 {
-    let mut numbers = [0u64; MOST_NUMBERS];
-    let size = match read_numbers(after, &mut numbers[..kind.count(edition)]) {
+    let mut fields = [0u64; CARD_FIELDS];
+    let size = match read_numbers(after, &mut fields) {
         Ok(size) => size,
         Err(number) => return Front::Refused(number),
     };
-    let line = kind.line(&numbers);
-    match content_refusal(line) {
-        Outcome::Accepted => Front::Read(EditionLine { edition, line }, size + 1),
+    let card = Card::from_fields(fields);
+    match card.refusal() {
+        Outcome::Accepted => Front::Read(
+            EditionLine {
+                edition,
+                line: Line::Card(card),
+            },
+            size,
+        ),
         Outcome::Refused(number) => Front::Refused(number),
+    }
+}
+
+// A sample's line, by what follows its letter.
+fn front_sample(after: &[u8], edition: u64) -> Front
+    ensures { result ≡ after_letter edition sample after.now }
+{
+    let mut numbers = [0u64; 4];
+    match read_numbers(after, &mut numbers) {
+        Ok(size) => {
+            let sample = Sample {
+                pulses: numbers[0],
+                seconds: numbers[1],
+                supply_reading: numbers[2],
+                return_reading: numbers[3],
+            };
+            Front::Read(
+                EditionLine {
+                    edition,
+                    line: Line::Sample(sample),
+                },
+                size,
+            )
+        }
+        Err(number) => Front::Refused(number),
+    }
+}
+
+// The last line, by what follows its letter. Where its edition has fewer numbers than there are places, the others are zero.
+fn front_end(after: &[u8], edition: u64) -> Front
+    ensures { result ≡ after_letter edition totals after.now }
+{
+    let mut numbers = [0u64; MOST_LATER];
+    match read_numbers(after, &mut numbers[..totals_count(edition)]) {
+        Ok(size) => Front::Read(
+            EditionLine {
+                edition,
+                line: Line::End(Totals::from(numbers)),
+            },
+            size,
+        ),
+        Err(number) => Front::Refused(number),
     }
 }
 

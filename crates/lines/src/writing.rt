@@ -44,7 +44,7 @@ fn write_refusal(size: usize, at: usize, what: EditionLine) -> Outcome
 
 // A card's own rows.
 #[tactic(auto, unfolding(crate::specs::Line::content_rows, quantity::specs::Refusals::first_of))]
-pub(crate) fn content_refusal(line: Line) -> Outcome
+fn content_refusal(line: Line) -> Outcome
     ensures { result ≡ first_of (content_rows line) }
 {
     match line {

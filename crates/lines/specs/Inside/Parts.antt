@@ -5,12 +5,10 @@ use Rattle.quantity.specs.declared.refusal.Outcome.TheVariants as O
 use Rattle.meter.specs.Card.{card_fields}
 use Rattle.lines.specs.Bytes.{comma, digit_zero}
 use Rattle.lines.specs.Number.{most_digits64, is_digit, most_digits, is_number, value_of}
-use Rattle.lines.specs.Line.{LineKind, card, sample, totals, kind_of, count_of, all_numbers_of, in_edition, content_rows, line_of}
+use Rattle.lines.specs.Line.{LineKind, kind_of, count_of, all_numbers_of, in_edition, content_rows, line_of}
 use Rattle.lines.specs.Reading.{shape_rows, numbers_in, size_of, answer_of}
 use Rattle.lines.specs.declared.line.EditionLine.{EditionLine}
 use Rattle.lines.specs.declared.number.Number.{Number}
-use Rattle.lines.specs.declared.kind.Kind.{Kind}
-use Rattle.lines.specs.declared.kind.Kind.TheVariants as K
 use Rattle.lines.specs.declared.line.Front.{Front}
 use Rattle.lines.specs.declared.line.Line.{Line}
 
@@ -36,24 +34,18 @@ unfoldable pub field_at : List ℕ → Option Number
 field_at [] = None
 field_at (b ∷ bs) = cond (eqb b comma) (one_more (number_at bs)) None
 
--- By what follows a line's letter: its numbers and the bytes that they and its end take, where no row of its shape refuses it; or the refusal.
+-- By what follows a line's letter: its numbers and the bytes that it takes, its letter among them, where no row of its shape refuses it; or the refusal.
 -- What is left of the first field there is nothing.
 pub data NumbersRead (after out : List ℕ) : Result ℕ ℕ → Type 0 where
-  all_read : first_of (shape_rows [] (length out) after) ≡ O.Accepted → out ≡ numbers_in after → NumbersRead after out (Ok (size_of after))
+  all_read : first_of (shape_rows [] (length out) after) ≡ O.Accepted → out ≡ numbers_in after → NumbersRead after out (Ok (size_of after + 1))
   line_refused : (r : ℕ) → first_of (shape_rows [] (length out) after) ≡ O.Refused r → NumbersRead after out (Err r)
 
--- the kind of a line that begins with a letter
-unfoldable pub kind_after : Kind → LineKind
-kind_after K.Card = card
-kind_after K.Sample = sample
-kind_after K.End = totals
-
 -- what the reader answers by what follows the letter of a line of a kind
-unfoldable pub after_letter : ℕ → Kind → List ℕ → Front
-after_letter e k after = answer_of (in_edition e line) (size_of after + 1) (first_of (shape_rows [] (count_of e (kind_after k)) after ++ content_rows line))
+unfoldable pub after_letter : ℕ → LineKind → List ℕ → Front
+after_letter e k after = answer_of (in_edition e line) (size_of after + 1) (first_of (shape_rows [] (count_of e k) after ++ content_rows line))
   where
     line : Line
-    line = line_of (kind_after k) (numbers_in after)
+    line = line_of k (numbers_in after)
 
 -- how many digits are looked at: one more than a number has
 abbrev pub looked_at : ℕ
