@@ -6,19 +6,18 @@ use lib.Dec.{leb}
 use Rattle.std.specs.List.{list_any, sum_by}
 use Rattle.std.proofs.lemmas.List.Sums.{sum_by-cons}
 use mathlib.Core.List.{List, [], ◌∷◌, ◌++◌, append_assoc, append-nil, map}
-use Prim.Native.Nat.{ℕ, suc, ◌+◌, ◌^◌, ◌≤◌, ◌<◌}
+use Prim.Native.Nat.{ℕ, suc, ◌+◌, ◌-◌, ◌^◌, ◌≤◌, ◌<◌}
 use native.Mathlib.Omega.{arith}
 use native.Mathlib.Numerals.{add-one}
-use lib.ListN.{length, get_or, drop, set, length-append, drop_of_length-le}
+use lib.ListN.{length, get_or, take, drop, set, length-append, drop_of_length-le}
 use lib.Seq.{drop-cons}
 use Rattle.lines.specs.Bytes.{line_feed, comma}
 use Rattle.lines.specs.Number.{decimal, most_digits64, some_from, some_long, some_nonzero}
 use Rattle.lines.specs.Line.{kind_of, first_field, numbers_of, lacked_of, after_commas, text_of, bytes_of}
-use Rattle.lines.specs.Writing.{put_at}
-use Rattle.lines.specs.Inside.Parts.{Parted, numbers_parted, most_bytes, most_numbers}
+use Rattle.lines.specs.Inside.Parts.{Parted, numbers_parted, most_bytes, most_numbers, put_front}
 use Rattle.lines.specs.declared.line.EditionLine.{EditionLine}
 use Rattle.lines.proofs.Decimals.{decimal_short}
-use Rattle.lines.proofs.Puts.{Wrote, wrote_none, wrote_length, wrote_room, wrote_more, wrote_set}
+use Rattle.lines.proofs.Puts.{Wrote, wrote_none, wrote_length, wrote_room, wrote_more, wrote_byte}
 
 -- ---- a number that is n or more
 
@@ -70,67 +69,79 @@ text_size first ns n e = simp length-append (omega (arith, e, fields_sum ns))
 
 -- ---- the text as it is put together
 
--- the first i numbers were put into xs from the place at on, which made ys, and k is the place after them
-pub record Progress (xs : List ℕ) (at : ℕ) (ns ys : List ℕ) (k i : ℕ) : Type 0 where
+-- the first i numbers were put at the front of xs, which made ys, and k is the place after them
+pub record Progress (xs ns ys : List ℕ) (k i : ℕ) : Type 0 where
   pub few : i ≤ length ns
   pub text : List ℕ
-  pub wrote : Wrote xs at text ys k
+  pub wrote : Wrote xs text ys k
   pub left : text ++ text_from ns i ≡ text_from ns 0
 
-pub begun : (xs : List ℕ) (at : ℕ) (ns : List ℕ) → Progress xs at ns xs at 0
-begun xs at ns = record { few = omega arith; text = []; wrote = wrote_none xs at; left = refl }
+pub begun : (xs ns : List ℕ) → Progress xs ns xs 0 0
+begun xs ns = record { few = omega arith; text = []; wrote = wrote_none xs; left = refl }
 
-module _ (xs : List ℕ) (at : ℕ) (ns ys : List ℕ) (k i : ℕ) (p : Progress xs at ns ys k i) (room : at + length (text_from ns 0) ≤ length xs) where
+module _ (xs ns ys : List ℕ) (k i : ℕ) (p : Progress xs ns ys k i) (room : length (text_from ns 0) ≤ length xs) where
   sizes : length p.text + length (text_from ns i) ≡ length (text_from ns 0)
   sizes = sym (length-append p.text (text_from ns i)) ∙ ap length p.left
 
   module _ (h : i < length ns) where
-    fits : at + length p.text + length (comma ∷ decimal (get_or ns i 0)) ≤ length xs
+    fits : length p.text + length (comma ∷ decimal (get_or ns i 0)) ≤ length xs
     fits = omega (arith, sizes, ap length (text_one ns i h) ∙ length-append (comma ∷ decimal (get_or ns i 0)) (text_from ns (i + 1)))
 
-    pub next_room : k + length (comma ∷ decimal (get_or ns i 0)) ≤ length ys
-    next_room = wrote_room xs at p.text ys k p.wrote (comma ∷ decimal (get_or ns i 0)) fits
+    pub next_room : length (comma ∷ decimal (get_or ns i 0)) ≤ length (take (length ys - k) (drop k ys))
+    next_room = wrote_room xs p.text ys k p.wrote (comma ∷ decimal (get_or ns i 0)) fits
 
-    pub next : (zs : List ℕ) (r : ℕ) → (r ≡ k + length (comma ∷ decimal (get_or ns i 0))) × (zs ≡ put_at ys k (comma ∷ decimal (get_or ns i 0))) → Progress xs at ns zs r (i + 1)
-    next zs r e = record {
+    pub next_place : k ≤ length ys
+    next_place = omega (arith, fits, p.wrote.next, wrote_length xs p.text ys k p.wrote [] (omega (arith, fits)))
+
+    pub next_within : k + length (comma ∷ decimal (get_or ns i 0)) ≤ length xs
+    next_within = omega (arith, fits, p.wrote.next)
+
+    pub next : (part : List ℕ) (r : ℕ) → r ≡ length (comma ∷ decimal (get_or ns i 0))
+        → part ≡ put_front (take (length ys - k) (drop k ys)) (comma ∷ decimal (get_or ns i 0))
+        → Progress xs ns (take k ys ++ (part ++ drop (length ys - k) (drop k ys))) (k + r) (i + 1)
+    next part r e g = record {
       few = omega arith;
       text = p.text ++ (comma ∷ decimal (get_or ns i 0));
-      wrote = wrote_more xs at p.text ys k p.wrote (comma ∷ decimal (get_or ns i 0)) fits zs r e;
+      wrote = wrote_more xs p.text ys k p.wrote (comma ∷ decimal (get_or ns i 0)) fits part r e g;
       left = append_assoc p.text (comma ∷ decimal (get_or ns i 0)) (text_from ns (i + 1)) ∙ ap (λ (l : List ℕ). p.text ++ l) (sym (text_one ns i h)) ∙ p.left;
     }
 
-  pub all : length ns ≤ i → Wrote xs at (text_from ns 0) ys k
-  all h = subst (λ (t : List ℕ). Wrote xs at t ys k) (sym (append-nil p.text) ∙ ap (λ (l : List ℕ). p.text ++ l) (sym (text_none ns i h)) ∙ p.left) p.wrote
+  pub all : length ns ≤ i → Wrote xs (text_from ns 0) ys k
+  all h = subst (λ (t : List ℕ). Wrote xs t ys k) (sym (append-nil p.text) ∙ ap (λ (l : List ℕ). p.text ++ l) (sym (text_none ns i h)) ∙ p.left) p.wrote
 
 -- the first field, the numbers and the end
-module _ (xs : List ℕ) (at : ℕ) (first ns : List ℕ) (room : at + length (text_of first ns) ≤ length xs) where
+module _ (xs first ns : List ℕ) (room : length (text_of first ns) ≤ length xs) where
   sizes_text : length (text_of first ns) ≡ length first + length (text_from ns 0) + 1
   unfolding text_of
   sizes_text = simp length-append (omega arith)
 
-  pub first_room : at + length first ≤ length xs
+  pub first_room : length first ≤ length xs
   first_room = omega (arith, sizes_text)
 
-  -- the buffer with the first field in it, and the place after that
-  module _ (zs : List ℕ) (j : ℕ) (f : (j ≡ at + length first) × (zs ≡ put_at xs at first)) where
-    began : Wrote xs at first zs j
-    began = record { holds = f.1; next = f.0 }
+  -- the part with the first field in it
+  module _ (zs : List ℕ) (f : zs ≡ put_front xs first) where
+    began : Wrote xs first zs (length first)
+    began = record { holds = f; next = refl }
 
-    pub fields_room : j + length (text_from ns 0) ≤ length zs
-    fields_room = omega (arith, sizes_text, f.0, wrote_length xs at first zs j began [] (omega (arith, sizes_text)))
+    pub fields_room : length (text_from ns 0) ≤ length (take (length zs - length first) (drop (length first) zs))
+    fields_room = wrote_room xs first zs (length first) began (text_from ns 0) (omega (arith, sizes_text))
 
-    module _ (ys : List ℕ) (k : ℕ) (e : (k ≡ j + length (text_from ns 0)) × (ys ≡ put_at zs j (text_from ns 0))) where
-      put : Wrote xs at (first ++ text_from ns 0) ys k
-      put = wrote_more xs at first zs j began (text_from ns 0) (omega (arith, sizes_text)) ys k e
+    -- and the numbers behind it
+    module _ (part : List ℕ) (r : ℕ) (e : r ≡ length (text_from ns 0)) (g : part ≡ put_front (take (length zs - length first) (drop (length first) zs)) (text_from ns 0)) where
+      abbrev with_fields : List ℕ
+      with_fields = take (length first) zs ++ (part ++ drop (length zs - length first) (drop (length first) zs))
 
-      pub end_room : k < length ys
-      end_room = omega (arith, sizes_text, e.0, f.0, wrote_length xs at (first ++ text_from ns 0) ys k put [] (omega (arith, sizes_text, length-append first (text_from ns 0))))
+      put : Wrote xs (first ++ text_from ns 0) with_fields (length first + r)
+      put = wrote_more xs first zs (length first) began (text_from ns 0) (omega (arith, sizes_text)) part r e g
 
-      pub text_put : Wrote xs at (text_of first ns) (set ys k line_feed) (k + 1)
+      pub end_room : length first + r < length with_fields
+      end_room = omega (arith, sizes_text, e, wrote_length xs (first ++ text_from ns 0) with_fields (length first + r) put [] (omega (arith, sizes_text, length-append first (text_from ns 0))))
+
+      pub text_put : Wrote xs (text_of first ns) (set with_fields (length first + r) line_feed) (length first + r + 1)
       unfolding text_of
       text_put =
-          subst (λ (t : List ℕ). Wrote xs at t (set ys k line_feed) (k + 1)) (append_assoc first (text_from ns 0) (line_feed ∷ []))
-          (wrote_set xs at (first ++ text_from ns 0) ys k line_feed put (omega (arith, sizes_text, length-append first (text_from ns 0))))
+          subst (λ (t : List ℕ). Wrote xs t (set with_fields (length first + r) line_feed) (length first + r + 1)) (append_assoc first (text_from ns 0) (line_feed ∷ []))
+          (wrote_byte xs (first ++ text_from ns 0) with_fields (length first + r) line_feed put (omega (arith, sizes_text, length-append first (text_from ns 0))))
 
 -- ---- a line's numbers as they are listed
 

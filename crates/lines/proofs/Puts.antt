@@ -5,12 +5,12 @@ use mathlib.Core.List.{List, [], ◌∷◌, ◌++◌, append_assoc, append-nil}
 use Prim.Native.Nat.{ℕ, suc, ◌+◌, ◌-◌, ◌/◌, ◌%◌, ◌≤◌, ◌<◌}
 use native.Mathlib.Omega.{arith}
 use native.Mathlib.Numerals.{add-one}
-use lib.ListN.{length, take, drop, set, length-append, length-take, length-drop, take-append-drop, drop_of_length-le}
+use lib.ListN.{length, take, drop, set, length-append, length-take, length-drop, drop_of_length-le}
 use lib.Seq.{set_split, take_all, drop-drop, take_at, drop_at, drop-length}
 use Rattle.lines.specs.Bytes.{comma}
 use Rattle.lines.specs.Number.{decimal}
 use Rattle.lines.specs.Writing.{put_at}
-use Rattle.lines.specs.Inside.Parts.{last_digits}
+use Rattle.lines.specs.Inside.Parts.{last_digits, put_front}
 use Rattle.lines.proofs.Lent.{rest_all}
 use Rattle.lines.proofs.Decimals.{decimal_ind, decimal_one, decimal_step}
 
@@ -31,14 +31,14 @@ all_digits = decimal_ind (λ n. last_digits (length (decimal n)) n ≡ decimal n
 
 -- a part lent after its first byte comes back with the digits of x, and a comma is stored before them
 pub put_field : (part ys : List ℕ) (w x : ℕ) → w ≡ length (decimal x) → w < length part → ys ≡ last_digits w x ++ drop w (take (length part - 1) (drop 1 part))
-    → set (take 1 part ++ (ys ++ drop (length part - 1) (drop 1 part))) 0 comma ≡ comma ∷ (decimal x ++ drop (w + 1) part)
+    → set (take 1 part ++ (ys ++ drop (length part - 1) (drop 1 part))) 0 comma ≡ put_front part (comma ∷ decimal x)
 put_field [] ys w x m h e = absurd (omega arith)
 put_field (p ∷ ps) ys w x m h e =
     let k : length (p ∷ ps) - 1 ≡ length ps = omega arith in
     let digits : last_digits w x ≡ decimal x = rw m (all_digits x) in
     let ys_is : ys ≡ decimal x ++ drop w ps = e ∙ rw (k, digits, take_all (length ps) ps (omega arith)) in
     let none : drop (length ps) ps ≡ [] = drop-length ps in
-    ap (λ (l : List ℕ). comma ∷ l) (rw (k, none, append-nil) (ys_is ∙ rw add-one))
+    ap (λ (l : List ℕ). comma ∷ l) (rw (k, none, append-nil) (ys_is ∙ rw m))
 
 -- ---- a text put into a buffer at a place
 
@@ -67,36 +67,53 @@ put_at_more xs at k t u e h =
     sym (drop-drop (length u) k (p ++ drop k xs)) ∙ ap (drop (length u)) (drop_at p (drop k xs) k l) ∙ drop-drop (length u) k xs ∙ ap (λ (i : ℕ). drop i xs) n in
     rw (s, take_at p (drop k xs) k l, d) (simp (length-append, append_assoc))
 
--- a store
+-- ---- a text put at the front
+
+pub front_at : (xs t : List ℕ) → put_at xs 0 t ≡ put_front xs t
+unfolding put_at
+front_at xs t = let z : 0 + length t ≡ length t = omega arith in ap (λ (n : ℕ). t ++ drop n xs) z
+
+pub length_front : (xs t : List ℕ) → length t ≤ length xs → length (put_front xs t) ≡ length xs
+length_front xs t h = simp (length-append, length-drop) (omega arith)
+
+-- the text t was put at the front of xs, which made ys, and k is the place after it
+pub record Wrote (xs t ys : List ℕ) (k : ℕ) : Type 0 where
+  pub holds : ys ≡ put_front xs t
+  pub next : k ≡ length t
+
+pub wrote_none : (xs : List ℕ) → Wrote xs [] xs 0
+wrote_none xs = record { holds = refl; next = refl }
+
+module _ (xs t ys : List ℕ) (k : ℕ) (w : Wrote xs t ys k) (u : List ℕ) (room : length t + length u ≤ length xs) where
+  pub wrote_length : length ys ≡ length xs
+  wrote_length = ap length w.holds ∙ length_front xs t (omega arith)
+
+  pub wrote_room : length u ≤ length (take (length ys - k) (drop k ys))
+  wrote_room = rw rest_all (omega (arith, w.next, wrote_length, length-drop k ys))
+
+  behind : put_at ys k u ≡ put_front xs (t ++ u)
+  behind =
+      ap (λ (l : List ℕ). put_at l k u) (w.holds ∙ sym (front_at xs t))
+      ∙ put_at_more xs 0 k t u (omega (arith, w.next)) (omega (arith, w.next))
+      ∙ front_at xs (t ++ u)
+
+  -- one text more, put at the front of the part that was lent from there on
+  pub wrote_more : (part : List ℕ) (r : ℕ) → r ≡ length u → part ≡ put_front (take (length ys - k) (drop k ys)) u
+      → Wrote xs (t ++ u) (take k ys ++ (part ++ drop (length ys - k) (drop k ys))) (k + r)
+  wrote_more part r e g = record {
+    holds = lent_back ys k (length u) u part (omega (arith, w.next, wrote_length)) refl g ∙ behind;
+    next = omega (arith, e, w.next, length-append t u);
+  }
+
 set_put_at : (xs : List ℕ) (at b : ℕ) → at < length xs → set xs at b ≡ put_at xs at (b ∷ [])
 unfolding put_at
 set_put_at xs at b h = set_split xs at b h ∙ rw add-one
 
--- the text t was put into xs from the place at on, which made ys, and k is the place after it
-pub record Wrote (xs : List ℕ) (at : ℕ) (t ys : List ℕ) (k : ℕ) : Type 0 where
-  pub holds : ys ≡ put_at xs at t
-  pub next : k ≡ at + length t
-
-module _ (xs : List ℕ) (at : ℕ) (t ys : List ℕ) (k : ℕ) (w : Wrote xs at t ys k) (u : List ℕ) (room : at + length t + length u ≤ length xs) where
-  pub wrote_length : length ys ≡ length xs
-  wrote_length = ap length w.holds ∙ length_put_at xs at t (omega arith)
-
-  pub wrote_room : k + length u ≤ length ys
-  wrote_room = omega (arith, w.next, wrote_length)
-
-  pub wrote_more : (zs : List ℕ) (r : ℕ) → (r ≡ k + length u) × (zs ≡ put_at ys k u) → Wrote xs at (t ++ u) zs r
-  wrote_more zs r e = record {
-    holds = e.1 ∙ ap (λ (l : List ℕ). put_at l k u) w.holds ∙ put_at_more xs at k t u w.next (omega (arith, w.next));
-    next = omega (arith, e.0, w.next, length-append t u);
-  }
-
-pub wrote_none : (xs : List ℕ) (at : ℕ) → Wrote xs at [] xs at
-unfolding put_at
-wrote_none xs at =
-    let z : at + 0 ≡ at = omega arith in
-    record { holds = sym (take-append-drop at xs) ∙ rw z; next = sym z }
-
-pub wrote_set : (xs : List ℕ) (at : ℕ) (t ys : List ℕ) (k b : ℕ) → Wrote xs at t ys k → at + length t + 1 ≤ length xs → Wrote xs at (t ++ (b ∷ [])) (set ys k b) (k + 1)
-wrote_set xs at t ys k b w room =
-    let l : length ys ≡ length xs = wrote_length xs at t ys k w (b ∷ []) room in
-    wrote_more xs at t ys k w (b ∷ []) room (set ys k b) (k + 1) (refl, set_put_at ys k b (omega (arith, w.next)))
+-- a store
+pub wrote_byte : (xs t ys : List ℕ) (k b : ℕ) → Wrote xs t ys k → length t + 1 ≤ length xs → Wrote xs (t ++ (b ∷ [])) (set ys k b) (k + 1)
+wrote_byte xs t ys k b w room =
+    let h : k < length ys = omega (arith, w.next, wrote_length xs t ys k w (b ∷ []) room) in
+    record {
+      holds = set_put_at ys k b h ∙ behind xs t ys k w (b ∷ []) room;
+      next = omega (arith, w.next, length-append t (b ∷ []));
+    }

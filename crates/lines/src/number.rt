@@ -2,7 +2,7 @@
 ghost use Rattle.std.specs.Prelude.{◌≡◌, ◌++◌, ◌∷◌, ◌+◌, ◌≤◌, length, drop};
 ghost use Rattle.lines.specs.Bytes.{comma};
 ghost use Rattle.lines.specs.Number.{decimal, most_digits64};
-ghost use Rattle.lines.specs.Inside.Parts.{Digits, number_at, field_at, last_digits};
+ghost use Rattle.lines.specs.Inside.Parts.{Digits, number_at, field_at, last_digits, put_front};
 
 const MOST_DIGITS: usize = 18;
 
@@ -85,7 +85,7 @@ pub(crate) fn width(x: u64) -> usize
 #[tactic(auto, using(crate::proofs::Puts::put_field))]
 pub(crate) fn put_field(part: &mut [u8], x: u64) -> usize
     requires { length (comma ∷ decimal x) ≤ length part.old }
-    ensures { (result ≡ length (comma ∷ decimal x)) × (part.new ≡ comma ∷ (decimal x ++ drop result part.old)) }
+    ensures { (result ≡ length (comma ∷ decimal x)) × (part.new ≡ put_front part.old (comma ∷ decimal x)) }
 {
     let n = width(x);
     put_digits(&mut part[1..], n, x);

@@ -51,6 +51,9 @@ fn edition_in(bytes: &[u8], may_come: MayCome) -> u64
     }
 }
 
+// Each letter has a function of its own. One for all, told the kind, was tried: a sample's line passed through the widest line, and took 68
+// instructions more.
+
 // The card's line, by what follows its letter. The card's own rows come after those of the line's shape.
 fn front_card(after: &[u8], edition: u64) -> Front
     ensures { result ≡ after_letter edition card after.now }

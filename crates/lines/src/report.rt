@@ -58,13 +58,13 @@ pub fn report_line(report: Report) -> OutputLine
 }
 
 // The output line of a first field and numbers.
-#[tactic(auto, using(crate::proofs::Reports::line_within), unfolding(crate::specs::Report::output_of))]
+#[tactic(auto, using(crate::proofs::Reports::line_within, crate::proofs::Puts::front_at), unfolding(crate::specs::Report::output_of))]
 fn output_of(first: &[u8], numbers: &[u64]) -> OutputLine
     requires { (length first.now ≤ 1) × (length numbers.now ≤ most_reported) }
     ensures answer { result ≡ output_of (text_of first.now numbers.now) }
     ensures within { result.length ≤ longest_output }
 {
     let mut bytes = [0u8; LONGEST];
-    let length = put_text(&mut bytes, 0, first, numbers);
+    let length = put_text(&mut bytes, first, numbers);
     OutputLine { bytes, length }
 }

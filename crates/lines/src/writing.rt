@@ -1,11 +1,10 @@
 // The writer of one line (document 01, "Archive text"), in its edition.
-ghost use Rattle.std.specs.Prelude.{◌≡◌, ◌||◌, ◌∷◌, map, ◌+◌, ◌≤◌, length};
+ghost use Rattle.std.specs.Prelude.{◌≡◌, ◌||◌, map, ◌≤◌, length};
 ghost use Rattle.quantity.specs.Refusals.{first_of};
-ghost use Rattle.lines.specs.Bytes.{comma};
 ghost use Rattle.lines.specs.Number.{decimal, some_long, some_nonzero};
 ghost use Rattle.lines.specs.Line.{after_commas, text_of, bytes_of, content_rows};
-ghost use Rattle.lines.specs.Inside.Parts.{most_numbers};
-ghost use Rattle.lines.specs.Writing.{text_rows, write_rows, written_of, put_at, buffer_after};
+ghost use Rattle.lines.specs.Inside.Parts.{most_numbers, put_front};
+ghost use Rattle.lines.specs.Writing.{text_rows, write_rows, written_of, buffer_after};
 
 use crate::line::{EditionLine, Line, Written};
 use crate::listed::{Listed, fields_length, first_field, has_from, numbers_of};
@@ -20,7 +19,7 @@ pub fn write_line(buf: &mut [u8], at: usize, what: EditionLine) -> Written
     ensures buffer { buf.new ≡ buffer_after buf.old at (bytes_of what) result }
 {
     match write_refusal(buf.len(), at, what) {
-        Outcome::Accepted => Written::Next(put_line(buf, at, what)),
+        Outcome::Accepted => Written::Next(at + put_line(&mut buf[at..], what)),
         Outcome::Refused(number) => Written::Refused(number),
     }
 }
@@ -79,55 +78,37 @@ fn has_refused_number(listed: &Listed) -> bool
     has_from(listed.shown(), LEAST_LONG) || has_from(listed.lacked(), 1)
 }
 
-// Puts a line for which there is room.
-fn put_line(buf: &mut [u8], at: usize, what: EditionLine) -> usize
-    requires { at + length (bytes_of what) ≤ length buf.old }
-    ensures { (result ≡ at + length (bytes_of what)) × (buf.new ≡ put_at buf.old at (bytes_of what)) }
+// Puts a line for which there is room at the front of part, and answers how many bytes it takes.
+fn put_line(part: &mut [u8], what: EditionLine) -> usize
+    requires { length (bytes_of what) ≤ length part.old }
+    ensures { (result ≡ length (bytes_of what)) × (part.new ≡ put_front part.old (bytes_of what)) }
 {
     let listed = numbers_of(what);
-    put_text(buf, at, first_field(what.line), listed.shown())
+    put_text(part, first_field(what.line), listed.shown())
 }
 
 // Puts the first field, the numbers and the line's end.
 #[tactic(auto, using(crate::proofs::Listing::fields_room, crate::proofs::Listing::end_room))]
-pub(crate) fn put_text(buf: &mut [u8], at: usize, first: &[u8], numbers: &[u64]) -> usize
-    requires { at + length (text_of first.now numbers.now) ≤ length buf.old }
-    ensures { (result ≡ at + length (text_of first.now numbers.now)) × (buf.new ≡ put_at buf.old at (text_of first.now numbers.now)) }
+pub(crate) fn put_text(part: &mut [u8], first: &[u8], numbers: &[u64]) -> usize
+    requires { length (text_of first.now numbers.now) ≤ length part.old }
+    ensures { (result ≡ length (text_of first.now numbers.now)) × (part.new ≡ put_front part.old (text_of first.now numbers.now)) }
 {
-    let place = put_bytes(buf, at, first);
-    let end = put_fields(buf, place, numbers);
-    buf[end] = b'\n';
+    let place = first.len();
+    part[..place].copy_from_slice(first);
+    let end = place + put_fields(&mut part[place..], numbers);
+    part[end] = b'\n';
     end + 1
 }
 
-// Puts bytes from the place at on, and answers the next place.
-#[tactic(auto, unfolding(crate::specs::Writing::put_at))]
-fn put_bytes(buf: &mut [u8], at: usize, bytes: &[u8]) -> usize
-    requires { at + length bytes.now ≤ length buf.old }
-    ensures { (result ≡ at + length bytes.now) × (buf.new ≡ put_at buf.old at bytes.now) }
-{
-    let next = at + bytes.len();
-    buf[at..next].copy_from_slice(bytes);
-    next
-}
-
 // Puts the numbers, each after a comma.
-#[tactic(auto, using(crate::proofs::Listing::begun, crate::proofs::Listing::next))]
-fn put_fields(buf: &mut [u8], at: usize, numbers: &[u64]) -> usize
-    requires { at + length (after_commas (map decimal numbers.now)) ≤ length buf.old }
-    ensures { (result ≡ at + length (after_commas (map decimal numbers.now))) × (buf.new ≡ put_at buf.old at (after_commas (map decimal numbers.now))) }
+#[tactic(auto, using(crate::proofs::Listing::begun, crate::proofs::Listing::next_place))]
+fn put_fields(part: &mut [u8], numbers: &[u64]) -> usize
+    requires { length (after_commas (map decimal numbers.now)) ≤ length part.old }
+    ensures { (result ≡ length (after_commas (map decimal numbers.now))) × (part.new ≡ put_front part.old (after_commas (map decimal numbers.now))) }
 {
-    let mut place = at;
+    let mut place: usize = 0;
     for number in numbers {
-        place = put_at(buf, place, *number);
+        place += put_field(&mut part[place..], *number);
     }
     place
-}
-
-// Puts a comma and x from the place at on, and answers the next place.
-fn put_at(buf: &mut [u8], at: usize, x: u64) -> usize
-    requires { at + length (comma ∷ decimal x) ≤ length buf.old }
-    ensures { (result ≡ at + length (comma ∷ decimal x)) × (buf.new ≡ put_at buf.old at (comma ∷ decimal x)) }
-{
-    at + put_field(&mut buf[at..], x)
 }

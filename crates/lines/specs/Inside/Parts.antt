@@ -61,7 +61,11 @@ unfoldable pub last_digits : ℕ → ℕ → List ℕ
 last_digits zero n = []
 last_digits (suc k) n = last_digits k (n / 10) ++ ((digit_zero + n % 10) ∷ [])
 
--- the most bytes of so many of them, each after a comma
+-- a part of a buffer with a text put at its front
+abbrev pub put_front : List ℕ → List ℕ → List ℕ
+put_front part text = text ++ drop (length text) part
+
+-- the most bytes of so many numbers, each after a comma
 abbrev pub most_bytes : ℕ → ℕ
 most_bytes count = (1 + most_digits64) * count
 
