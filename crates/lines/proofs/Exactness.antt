@@ -1,13 +1,14 @@
 -- Each refusal of the reader is answered exactly where its own condition is the first that holds.
 -- Assumes nothing.
+use Rattle.std.proofs.Common.{Result, Ok, Err}
 use mathlib.Core.Path.{◌≡◌, refl, sym, ap, ◌∙◌, subst}
 use mathlib.Core.Bool.{Bool, true, false, cond, not, ◌||◌}
 use mathlib.Core.List.{List}
 use Prim.Native.Nat.{ℕ}
 use native.Mathlib.Omega.{arith}
 use Rattle.quantity.specs.Refusals.{first_of}
-use Rattle.quantity.specs.declared.refusal.Outcome.{Outcome}
-use Rattle.quantity.specs.declared.refusal.Outcome.TheVariants.{Accepted, Refused}
+use Rattle.quantity.specs.declared.refusal.Refusal.{Refusal}
+use Rattle.quantity.specs.declared.refusal.Refusal.TheVariants as R
 use Rattle.meter.specs.Edition.{is_other_edition}
 use Rattle.meter.specs.Card.{card_rows}
 use Rattle.lines.specs.Line.{sample, totals, first_field, count_of, card_of, line_of, content_rows}
@@ -17,33 +18,32 @@ use Rattle.lines.specs.Theorems.{RefusedExactly, EitherLetter}
 use Rattle.lines.specs.declared.line.EditionLine.{EditionLine}
 use Rattle.lines.specs.declared.line.MayCome.{MayCome}
 use Rattle.lines.specs.declared.line.MayCome.TheVariants as M
-use Rattle.lines.specs.declared.line.Front.TheVariants as F
 
 -- a refusal is that of the rows
-of_rows : (line : EditionLine) (n r : ℕ) (o : Outcome) → answer_of line n o ≡ F.Refused r → o ≡ Refused r
+of_rows : (line : EditionLine) (n : ℕ) (r : Refusal) (o : Result Unit Refusal) → answer_of line n o ≡ Err r → o ≡ Err r
 unfolding answer_of
-of_rows line n r Accepted e = absurd (let z : ◌≡◌ {A = ℕ} 0 1 = cc e in omega arith)
-of_rows line n r (Refused q) e = ap Refused (cc e)
+of_rows line n r (Ok u) e = absurd (let z : ◌≡◌ {A = ℕ} 0 1 = cc e in omega arith)
+of_rows line n r (Err q) e = ap (λ (x : Refusal). Err x) (cc e)
 
-rows_of : (line : EditionLine) (n r : ℕ) (o : Outcome) → o ≡ Refused r → answer_of line n o ≡ F.Refused r
+rows_of : (line : EditionLine) (n : ℕ) (r : Refusal) (o : Result Unit Refusal) → o ≡ Err r → answer_of line n o ≡ Err r
 unfolding answer_of
 rows_of line n r o e = rw e
 
 -- the row of the edition, the rows of a line's shape, and what the rows after them answer
-rows : Bool → Bool → Bool → Outcome → Outcome
-rows o m n later = cond o (Refused 60) (cond m (Refused 61) (cond (not n) (Refused 62) later))
+rows : Bool → Bool → Bool → Result Unit Refusal → Result Unit Refusal
+rows o m n later = cond o (Err R.Edition) (cond m (Err R.Shape) (cond (not n) (Err R.Number) later))
 
-data Which (o m n : Bool) (later : Outcome) : ℕ → Type 0 where
-  by_edition : o ≡ true → Which o m n later 60
-  by_shape : o ≡ false → m ≡ true → Which o m n later 61
-  by_number : o ≡ false → m ≡ false → n ≡ false → Which o m n later 62
-  by_later : (r : ℕ) → o ≡ false → m ≡ false → n ≡ true → later ≡ Refused r → Which o m n later r
+data Which (o m n : Bool) (later : Result Unit Refusal) : Refusal → Type 0 where
+  by_edition : o ≡ true → Which o m n later R.Edition
+  by_shape : o ≡ false → m ≡ true → Which o m n later R.Shape
+  by_number : o ≡ false → m ≡ false → n ≡ false → Which o m n later R.Number
+  by_later : (r : Refusal) → o ≡ false → m ≡ false → n ≡ true → later ≡ Err r → Which o m n later r
 
-which : (o m n : Bool) (later : Outcome) (r : ℕ) → rows o m n later ≡ Refused r → Which o m n later r
+which : (o m n : Bool) (later : Result Unit Refusal) (r : Refusal) → rows o m n later ≡ Err r → Which o m n later r
 unfolding rows
-which true m n later r e = subst (λ (k : ℕ). Which true m n later k) (cc e) (by_edition refl)
-which false true n later r e = subst (λ (k : ℕ). Which false true n later k) (cc e) (by_shape refl refl)
-which false false false later r e = subst (λ (k : ℕ). Which false false false later k) (cc e) (by_number refl refl refl)
+which true m n later r e = subst (λ (k : Refusal). Which true m n later k) (cc e) (by_edition refl)
+which false true n later r e = subst (λ (k : Refusal). Which false true n later k) (cc e) (by_shape refl refl)
+which false false false later r e = subst (λ (k : Refusal). Which false false false later k) (cc e) (by_number refl refl refl)
 which false false true later r e = by_later r refl refl refl e
 
 card_other : (e : ℕ) → M.Card e ≡ M.Opening → ⊥
@@ -69,10 +69,10 @@ module _ (bs : List ℕ) where
   numbers_due (M.Card e) = are_numbers (others_in bs)
   numbers_due (M.SampleOrEnd e) = are_numbers (others_in bs)
 
-  later : MayCome → Outcome
-  later M.Opening = Accepted
+  later : MayCome → Result Unit Refusal
+  later M.Opening = Ok tt
   later (M.Card e) = first_of (card_rows (card_of (numbers_in bs)))
-  later (M.SampleOrEnd e) = Accepted
+  later (M.SampleOrEnd e) = Ok tt
 
   due_rows : (may : MayCome) → first_of (read_rows may bs) ≡ rows (other may) (misshapen_due may) (numbers_due may) (later may)
   unfolding read_rows later_rows line_rows first_of shape_rows rows other misshapen_due numbers_due later edition_in line_of due_kind content_rows
@@ -80,13 +80,13 @@ module _ (bs : List ℕ) where
   due_rows (M.Card e) = refl
   due_rows (M.SampleOrEnd e) = go (is_same (first_in bs) (first_field totals))
     where
-      go : (t : Bool) → cond (is_other_edition e) (Refused 60) (first_of (line_rows e (cond t totals sample) bs))
-          ≡ rows (is_other_edition e) (is_misshapen (first_field (cond t totals sample)) (count_of e (cond t totals sample)) bs) (are_numbers (others_in bs)) Accepted
+      go : (t : Bool) → cond (is_other_edition e) (Err R.Edition) (first_of (line_rows e (cond t totals sample) bs))
+          ≡ rows (is_other_edition e) (is_misshapen (first_field (cond t totals sample)) (count_of e (cond t totals sample)) bs) (are_numbers (others_in bs)) (Ok tt)
       go true = refl
       go false = refl
 
   -- a cause for each refusal
-  cause : (may : MayCome) (r : ℕ) → Which (other may) (misshapen_due may) (numbers_due may) (later may) r → Cause bs may r
+  cause : (may : MayCome) (r : Refusal) → Which (other may) (misshapen_due may) (numbers_due may) (later may) r → Cause bs may r
   unfolding other misshapen_due numbers_due later edition_in
   cause may r (by_edition o) = other_edition o
   cause M.Opening r (by_shape o m) = absurd (let z : ◌≡◌ {A = ℕ} 0 1 = cc m in omega arith)
@@ -100,7 +100,7 @@ module _ (bs : List ℕ) where
   cause (M.SampleOrEnd e) r (by_later k o m n h) = absurd (let z : ◌≡◌ {A = ℕ} 0 1 = cc h in omega arith)
 
   -- a refusal for each cause
-  refusal : (may : MayCome) (r : ℕ) → Cause bs may r → rows (other may) (misshapen_due may) (numbers_due may) (later may) ≡ Refused r
+  refusal : (may : MayCome) (r : Refusal) → Cause bs may r → rows (other may) (misshapen_due may) (numbers_due may) (later may) ≡ Err r
   unfolding rows other misshapen_due numbers_due later edition_in
   refusal may r (other_edition o) = rw o
   refusal M.Opening r (misshapen q o m) = absurd (q refl)

@@ -1,5 +1,6 @@
 -- The shape of a line, found by going through it: which of 61 and 62 a line that is no line of its kind gets.
 -- Assumes nothing.
+use Rattle.std.proofs.Common.{Result, Ok, Err}
 use mathlib.Core.Path.{◌≡◌, refl, sym, ap, ◌∙◌}
 use mathlib.Core.Bool.{Bool, true, false, cond, not, ◌||◌, or-true}
 use mathlib.Core.List.{List, [], ◌∷◌}
@@ -14,8 +15,8 @@ use Rattle.std.specs.List.{position, position_or_len, count_by}
 use lib.ListN.{length, get_or, take, drop}
 use borrow.Author.Tests.{lt-ltb, eq-eqb, ne_eqb}
 use Rattle.quantity.specs.Refusals.{row, first_of}
-use Rattle.quantity.specs.declared.refusal.Outcome.{Outcome}
-use Rattle.quantity.specs.declared.refusal.Outcome.TheVariants.{Accepted, Refused}
+use Rattle.quantity.specs.declared.refusal.Refusal.{Refusal}
+use Rattle.quantity.specs.declared.refusal.Refusal.TheVariants as R
 use Rattle.lines.specs.Bytes.{line_feed, comma}
 use Rattle.lines.specs.Number.{some_long}
 use Rattle.lines.specs.Reading.{is_same, until_end, is_ended, size_of, with_first, split, fields_in, first_in, others_in, are_numbers, numbers_in, is_misshapen, shape_rows}
@@ -150,17 +151,17 @@ module _ (first : List ℕ) (count : ℕ) (bs : List ℕ) where
   NoLine = (ns rest : List ℕ) → length ns ≡ count → some_long ns ≡ false → bs ≡ line_bytes first ns rest → ⊥
 
   -- LAW: such bytes are refused, with 61 if they have not the shape, and otherwise with 62
-  pub refused_rows : NoLine → first_of (shape_rows first count bs) ≡ Refused (cond (is_misshapen first count bs) 61 62)
+  pub refused_rows : NoLine → first_of (shape_rows first count bs) ≡ Err (cond (is_misshapen first count bs) R.Shape R.Number)
   unfolding shape_rows first_of
   refused_rows none = go (is_misshapen first count bs) (are_numbers (others_in bs)) refl refl
     where
-      rows : Bool → Bool → Outcome
-      rows m n = first_of (row 61 m ∷ row 62 (not n) ∷ [])
+      rows : Bool → Bool → Result Unit Refusal
+      rows m n = first_of (row R.Shape m ∷ row R.Number (not n) ∷ [])
 
-      go : (m n : Bool) → is_misshapen first count bs ≡ m → are_numbers (others_in bs) ≡ n → rows m n ≡ Refused (cond m 61 62)
+      go : (m n : Bool) → is_misshapen first count bs ≡ m → are_numbers (others_in bs) ≡ n → rows m n ≡ Err (cond m R.Shape R.Number)
       go true n e g = refl
       go false false e g = refl
       go false true e g =
-          let accepted : first_of (shape_rows first count bs) ≡ Accepted = simp (e, g) in
+          let accepted : first_of (shape_rows first count bs) ≡ Ok tt = simp (e, g) in
           let l = shape_forth first count bs accepted in
           absurd (none (numbers_in bs) (drop (size_of bs) bs) l.counted l.short l.bytes)

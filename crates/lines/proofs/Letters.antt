@@ -9,16 +9,15 @@ use lib.ListN.{length, get_or, drop}
 use borrow.Author.Tests.{eq-eqb, ne_eqb}
 use Rattle.std.proofs.Common.{Result, Ok, Err}
 use Rattle.quantity.specs.Refusals.{first_of}
-use Rattle.quantity.specs.declared.refusal.Outcome.{Outcome}
-use Rattle.quantity.specs.declared.refusal.Outcome.TheVariants.{Accepted, Refused}
+use Rattle.quantity.specs.declared.refusal.Refusal.{Refusal}
+use Rattle.quantity.specs.declared.refusal.Refusal.TheVariants as R
 use Rattle.quantity.proofs.Rows.{parts, or_else}
 use Rattle.lines.specs.Bytes.{line_feed, comma}
 use Rattle.lines.specs.Number.{value_of}
 use Rattle.lines.specs.Line.{LineKind, opening, card, sample, totals, first_field, in_edition, content_rows, count_of, card_of, line_of}
-use Rattle.lines.specs.Reading.{is_same, until_end, is_ended, size_of, with_first, split, fields_in, first_in, others_in, numbers_in, is_misshapen, shape_rows, line_rows, answer_of}
+use Rattle.lines.specs.Reading.{front_of, is_same, until_end, is_ended, size_of, with_first, split, fields_in, first_in, others_in, numbers_in, is_misshapen, shape_rows, line_rows, answer_of}
 use Rattle.lines.specs.Inside.Parts.{NumbersRead, all_read, line_refused, after_letter}
 use Rattle.lines.specs.declared.line.Line.{Line}
-use Rattle.lines.specs.declared.line.Front.TheVariants as F
 use Rattle.lines.proofs.Splitting.{split_parted}
 use Rattle.lines.proofs.Shown.{AreZero, zero_after}
 use Rattle.lines.proofs.Faults.{misshapen_first, first_of_lem, others_first}
@@ -64,7 +63,7 @@ by_letter e k b after c f = rw (f, shape_letter b after c (count_of e k), number
 -- ---- what `read_numbers` answered
 
 module _ (e : ℕ) (k : LineKind) (after : List ℕ) where
-  abbrev shape : Outcome
+  abbrev shape : Result Unit Refusal
   shape = first_of (shape_rows [] (count_of e k) after)
 
   abbrev said : Line
@@ -74,15 +73,15 @@ module _ (e : ℕ) (k : LineKind) (after : List ℕ) where
   unfolding after_letter
   by_shape = ap (answer_of (in_edition e said) (size_of after + 1)) (parts (shape_rows [] (count_of e k) after) (content_rows said))
 
-  refused_shape : (r : ℕ) → shape ≡ Refused r → after_letter e k after ≡ F.Refused r
+  refused_shape : (r : Refusal) → shape ≡ Err r → after_letter e k after ≡ Err r
   unfolding answer_of
   refused_shape r h = by_shape ∙ rw h
 
 -- a first field that goes on after the letter is refused with 61
-pub other_first : (e : ℕ) (k : LineKind) (b : ℕ) (after : List ℕ) → comma < b → is_same (first_in (b ∷ after)) (b ∷ []) ≡ false → after_letter e k after ≡ F.Refused 61
+pub other_first : (e : ℕ) (k : LineKind) (b : ℕ) (after : List ℕ) → comma < b → is_same (first_in (b ∷ after)) (b ∷ []) ≡ false → after_letter e k after ≡ Err R.Shape
 unfolding shape_rows first_of
 other_first e k b after c h =
-    refused_shape e k after 61 (simp (misshapen_first [] (count_of e k) after (sym (same_letter b after c) ∙ h)))
+    refused_shape e k after R.Shape (simp (misshapen_first [] (count_of e k) after (sym (same_letter b after c) ∙ h)))
 
 -- zeros after a line's numbers change nothing
 pub padded : (k : LineKind) (ns zs : List ℕ) → AreZero zs → line_of k (ns ++ zs) ≡ line_of k ns
@@ -92,17 +91,17 @@ padded card ns zs z = simp (zero_after ns zs z)
 padded sample ns zs z = simp (zero_after ns zs z)
 padded totals ns zs z = simp (zero_after ns zs z)
 
-all_numbers : (after out : List ℕ) (x : Result ℕ ℕ) (n : ℕ) → NumbersRead after out x → x ≡ Ok n
-    → (first_of (shape_rows [] (length out) after) ≡ Accepted) × ((out ≡ numbers_in after) × (n ≡ size_of after + 1))
+all_numbers : (after out : List ℕ) (x : Result ℕ Refusal) (n : ℕ) → NumbersRead after out x → x ≡ Ok n
+    → (first_of (shape_rows [] (length out) after) ≡ Ok tt) × ((out ≡ numbers_in after) × (n ≡ size_of after + 1))
 all_numbers after out x n (all_read e f) g = (e, (f, sym (cc g)))
 all_numbers after out x n (line_refused r e) g = absurd (let z : ◌≡◌ {A = ℕ} 0 1 = cc g in omega arith)
 
-no_numbers : (after out : List ℕ) (x : Result ℕ ℕ) (r : ℕ) → NumbersRead after out x → x ≡ Err r → first_of (shape_rows [] (length out) after) ≡ Refused r
+no_numbers : (after out : List ℕ) (x : Result ℕ Refusal) (r : Refusal) → NumbersRead after out x → x ≡ Err r → first_of (shape_rows [] (length out) after) ≡ Err r
 no_numbers after out x r (all_read e f) g = absurd (let z : ◌≡◌ {A = ℕ} 0 1 = cc g in omega arith)
 no_numbers after out x r (line_refused s e) g = let k : s ≡ r = cc g in rw k at e
 
-module _ (e : ℕ) (k : LineKind) (after out : List ℕ) (x : Result ℕ ℕ) (h : NumbersRead after out x) (c : length out ≡ count_of e k) where
-  pub none_after : (r : ℕ) → x ≡ Err r → F.Refused r ≡ after_letter e k after
+module _ (e : ℕ) (k : LineKind) (after out : List ℕ) (x : Result ℕ Refusal) (h : NumbersRead after out x) (c : length out ≡ count_of e k) where
+  pub none_after : (r : Refusal) → x ≡ Err r → Err r ≡ after_letter e k after
   none_after r g = sym (refused_shape e k after r (rw c at (no_numbers after out x r h g)))
 
   -- where the numbers with what is put after them say the line that they say
@@ -111,13 +110,13 @@ module _ (e : ℕ) (k : LineKind) (after out : List ℕ) (x : Result ℕ ℕ) (h
     content_decides =
         let a = all_numbers after out x n h g in
         let same : line ≡ line_of k (numbers_in after) = f ∙ ap (line_of k) a.1.0 in
-        let accepted : first_of (shape_rows [] (count_of e k) after) ≡ Accepted = rw c at a.0 in
+        let accepted : first_of (shape_rows [] (count_of e k) after) ≡ Ok tt = rw c at a.0 in
         rw (same, a.1.1) (sym (by_shape e k after ∙ rw accepted))
 
-    pub read_after : Accepted ≡ first_of (content_rows line) → F.Read (in_edition e line) n ≡ after_letter e k after
+    pub read_after : Ok tt ≡ first_of (content_rows line) → front_of (in_edition e line) n ≡ after_letter e k after
     unfolding answer_of
     read_after o = ap (answer_of (in_edition e line) n) o ∙ content_decides
 
-    pub refused_after : (r : ℕ) → Refused r ≡ first_of (content_rows line) → F.Refused r ≡ after_letter e k after
+    pub refused_after : (r : Refusal) → Err r ≡ first_of (content_rows line) → Err r ≡ after_letter e k after
     unfolding answer_of
     refused_after r o = ap (answer_of (in_edition e line) n) o ∙ content_decides

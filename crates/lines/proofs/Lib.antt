@@ -13,6 +13,7 @@ pub mod Openings
 pub mod Puts
 pub mod ReaderRows
 pub mod Reports
+mod Passed
 mod Runs
 mod Shown
 pub mod RoundTrips

@@ -1,12 +1,12 @@
 -- The bytes of a line, with what follows them, read again: its first field, its numbers, its size and its shape.
 -- Assumes nothing.
+use Rattle.std.proofs.Common.{Ok}
 use mathlib.Core.Path.{◌≡◌, ap, ◌∙◌}
 use mathlib.Core.Bool.{false}
 use mathlib.Core.List.{List, [], ◌∷◌, ◌++◌, append_assoc, map}
 use Prim.Native.Nat.{ℕ}
 use lib.ListN.{length}
 use Rattle.quantity.specs.Refusals.{first_of}
-use Rattle.quantity.specs.declared.refusal.Outcome.TheVariants.{Accepted}
 use Rattle.lines.specs.Bytes.{line_feed}
 use Rattle.lines.specs.Number.{decimal, some_long}
 use Rattle.lines.specs.Line.{kind_of, first_field, numbers_of, after_commas, text_of, bytes_of, count_of}
@@ -36,5 +36,5 @@ module _ (line : EditionLine) (rest : List ℕ) where
   bytes_size = ap size_of line_bytes_lem ∙ size_back first (numbers_of line) rest (plain (kind_of line.line))
 
   pub bytes_shape : some_long (numbers_of line) ≡ false
-      → first_of (shape_rows (first_field (kind_of line.line)) (count_of line.edition (kind_of line.line)) (bytes_of line ++ rest)) ≡ Accepted
+      → first_of (shape_rows (first_field (kind_of line.line)) (count_of line.edition (kind_of line.line)) (bytes_of line ++ rest)) ≡ Ok tt
   bytes_shape h = rw (← numbers_counted line, line_bytes_lem) (shape_back first (numbers_of line) rest (plain (kind_of line.line)) h)

@@ -10,9 +10,11 @@ use lib.Seq.{length-take-le}
 use Rattle.meter.specs.Edition.{keeps_seconds, counts_cold}
 use Rattle.meter.specs.Card.{fields_of}
 use Rattle.meter.specs.declared.card.Card.{Card}
+use Rattle.meter.specs.Sample.{fields_of as sample_fields}
+use Rattle.meter.specs.declared.sample.Sample.{Sample}
 use Rattle.meter.proofs.Elements.{all as all-elements}
 use Rattle.lines.specs.Number.{some_from, some_nonzero}
-use Rattle.lines.specs.Line.{LineKind, opening, card, sample, totals, kind_of, first_field, all_numbers_of, numbers_of, lacked_of, count_of, in_edition, card_of, line_of}
+use Rattle.lines.specs.Line.{LineKind, opening, card, sample, totals, kind_of, first_field, all_numbers_of, numbers_of, lacked_of, count_of, in_edition, card_of, sample_from, line_of}
 use Rattle.lines.specs.Theorems.{LineOf, NumbersLine}
 use Rattle.lines.specs.Inside.Parts.{most_later}
 use Rattle.lines.specs.declared.line.Line.{Line}
@@ -30,6 +32,11 @@ card_of_lem c = refl
 pub card_line : (c : Card) (ns : List ℕ) → fields_of c ≡ ns → L.Card c ≡ line_of card ns
 unfolding line_of
 card_line c ns e = ap L.Card (sym (ap card_of (sym e) ∙ card_of_lem c))
+
+-- the line of a sample's numbers
+pub sample_line : (s : Sample) (ns : List ℕ) → sample_fields s ≡ ns → L.Sample s ≡ line_of sample ns
+unfolding line_of sample_fields
+sample_line s ns e = ap (λ (l : List ℕ). L.Sample (sample_from l)) e
 
 -- line E has no more numbers in any edition than in the newest
 pub totals_few : (e : ℕ) → count_of e totals ≤ most_later

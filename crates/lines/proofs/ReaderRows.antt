@@ -1,5 +1,6 @@
 -- What reading means, by the kind of line that is due, as the code finds it.
 -- Assumes nothing.
+use Rattle.std.proofs.Common.{Err}
 use mathlib.Core.Path.{◌≡◌, refl, sym, ap, ◌∙◌}
 use mathlib.Core.Bool.{Bool, true, false}
 use mathlib.Core.List.{List, [], ◌∷◌, ◌++◌}
@@ -8,17 +9,17 @@ use native.Mathlib.Omega.{arith}
 use lib.Dec.{eqb}
 use lib.ListN.{length, get_or, take, drop, take-append-drop}
 use borrow.Author.Tests.{ne_eqb}
-use Rattle.quantity.specs.Refusals.{Row, row, first_of}
-use Rattle.quantity.specs.declared.refusal.Outcome.TheVariants.{Refused}
+use Rattle.quantity.specs.Refusals.{row, first_of}
+use Rattle.quantity.specs.declared.refusal.Row.{Row}
+use Rattle.quantity.specs.declared.refusal.Refusal.TheVariants as R
 use Rattle.quantity.proofs.Rows.{parts}
 use Rattle.meter.specs.Edition.{is_other_edition}
 use Rattle.lines.specs.Bytes.{line_feed, comma, letter_c, letter_e, letter_s}
 use Rattle.lines.specs.Line.{LineKind, card, sample, totals, first_field, bytes_of, opening_in, in_edition, content_rows, opening_length, count_of, line_of}
-use Rattle.lines.specs.Reading.{is_same, until_end, size_of, split, fields_in, first_in, numbers_in, shape_rows, edition_in, due_kind, line_in, line_rows, later_rows, read_rows, answer_of, read_of}
+use Rattle.lines.specs.Reading.{front_of, is_same, until_end, size_of, split, fields_in, first_in, numbers_in, shape_rows, edition_in, due_kind, line_in, line_rows, later_rows, read_rows, answer_of, read_of}
 use Rattle.lines.specs.Inside.Parts.{after_letter}
 use Rattle.lines.specs.declared.line.MayCome.{MayCome}
 use Rattle.lines.specs.declared.line.MayCome.TheVariants as M
-use Rattle.lines.specs.declared.line.Front.TheVariants as F
 use Rattle.lines.proofs.Splitting.{split_parted}
 use Rattle.lines.proofs.LineBytes.{bytes_size}
 use Rattle.lines.proofs.Lent.{rest_all}
@@ -29,12 +30,12 @@ use Rattle.lines.proofs.Letters.{by_letter, other_first}
 -- ---- the edition
 
 -- another edition, told or not found, is refused before all else
-pub edition_refused : (may : MayCome) (bs : List ℕ) → is_other_edition (edition_in may bs) ≡ true → read_of may bs ≡ F.Refused 60
+pub edition_refused : (may : MayCome) (bs : List ℕ) → is_other_edition (edition_in may bs) ≡ true → read_of may bs ≡ Err R.Edition
 unfolding read_of read_rows first_of answer_of
 edition_refused may bs h = simp h
 
 -- and otherwise the rows after that one decide
-after_edition : (e : ℕ) (rs : List Row) → is_other_edition e ≡ false → first_of (row 60 (is_other_edition e) ∷ rs) ≡ first_of rs
+after_edition : (e : ℕ) (rs : List Row) → is_other_edition e ≡ false → first_of (row R.Edition (is_other_edition e) ∷ rs) ≡ first_of rs
 unfolding first_of
 after_edition e rs h = simp h
 
@@ -46,12 +47,12 @@ opening_front bs e h p =
 pub opening_sized : (bs : List ℕ) (e : ℕ) → is_other_edition e ≡ false → edition_in M.Opening bs ≡ e → size_of bs ≡ opening_length
 opening_sized bs e h p = ap size_of (opening_front bs e h p) ∙ bytes_size (opening_in e) (drop opening_length bs) ∙ opening_length_lem e h
 
-pub opening_read : (bs : List ℕ) (e : ℕ) → is_other_edition e ≡ false → edition_in M.Opening bs ≡ e → read_of M.Opening bs ≡ F.Read (opening_in e) opening_length
+pub opening_read : (bs : List ℕ) (e : ℕ) → is_other_edition e ≡ false → edition_in M.Opening bs ≡ e → read_of M.Opening bs ≡ front_of (opening_in e) opening_length
 unfolding read_of read_rows later_rows first_of line_in due_kind line_of answer_of
 opening_read bs e h p = simp (p, h, opening_sized bs e h p)
 
 pub opening_told : (may : MayCome) (bs : List ℕ) (e : ℕ) → is_other_edition e ≡ false → e ≡ edition_in may bs → may ≡ M.Opening →
-    F.Read (opening_in e) opening_length ≡ read_of may bs
+    front_of (opening_in e) opening_length ≡ read_of may bs
 opening_told may bs e o p m = sym (ap (λ (y : MayCome). read_of y bs) m ∙ opening_read bs e o (sym (p ∙ ap (λ (y : MayCome). edition_in y bs) m)))
 
 -- ---- the letter
@@ -76,7 +77,7 @@ nothing_lem [] h letter k g = omega arith
 nothing_lem (b ∷ bs) h letter k g = omega arith
 
 -- bytes with another first field are refused with 61
-pub shape_other : (first : List ℕ) (count : ℕ) (bs : List ℕ) → is_same (first_in bs) first ≡ false → first_of (shape_rows first count bs) ≡ Refused 61
+pub shape_other : (first : List ℕ) (count : ℕ) (bs : List ℕ) → is_same (first_in bs) first ≡ false → first_of (shape_rows first count bs) ≡ Err R.Shape
 unfolding shape_rows first_of
 shape_other first count bs h = simp (misshapen_first first count bs h)
 
@@ -90,11 +91,11 @@ module _ (may : MayCome) (bs : List ℕ) (o : is_other_edition (edition_in may b
   by_due = rw (later, d, after_edition (edition_in may bs) (line_rows (edition_in may bs) k bs) o)
 
   -- where the bytes begin with another first field
-  wrong_first : is_same (first_in bs) (first_field k) ≡ false → read_of may bs ≡ F.Refused 61
+  wrong_first : is_same (first_in bs) (first_field k) ≡ false → read_of may bs ≡ Err R.Shape
   unfolding line_rows answer_of
   wrong_first h =
       let e : ℕ = edition_in may bs in
-      let rows : first_of (shape_rows (first_field k) (count_of e k) bs ++ content_rows (line_of k (numbers_in bs))) ≡ Refused 61 =
+      let rows : first_of (shape_rows (first_field k) (count_of e k) bs ++ content_rows (line_of k (numbers_in bs))) ≡ Err R.Shape =
       parts (shape_rows (first_field k) (count_of e k) bs) (content_rows (line_of k (numbers_in bs))) ∙ rw (shape_other (first_field k) (count_of e k) bs h) in
       by_due ∙ rw rows
 
@@ -105,7 +106,7 @@ module _ (e : ℕ) (o : is_other_edition e ≡ false) where
   unfolding edition_in due_kind later_rows first_field
   card_read after = by_due (M.Card e) (letter_c ∷ after) o card refl refl ∙ by_letter e card letter_c after (omega arith) refl
 
-  card_wrong : (bs : List ℕ) → (get_or bs 0 0 ≡ letter_c → ⊥) → read_of (M.Card e) bs ≡ F.Refused 61
+  card_wrong : (bs : List ℕ) → (get_or bs 0 0 ≡ letter_c → ⊥) → read_of (M.Card e) bs ≡ Err R.Shape
   unfolding edition_in due_kind later_rows first_field
   card_wrong bs h = wrong_first (M.Card e) bs o card refl refl (other_letter letter_c bs h)
 
@@ -119,7 +120,7 @@ module _ (e : ℕ) (o : is_other_edition e ≡ false) where
       by_due (M.SampleOrEnd e) (letter_s ∷ after) o sample (sample_due (letter_s ∷ after) (λ g. omega arith)) refl
       ∙ by_letter e sample letter_s after (omega arith) refl
 
-  later_wrong : (bs : List ℕ) → (get_or bs 0 0 ≡ letter_s → ⊥) → (get_or bs 0 0 ≡ letter_e → ⊥) → read_of (M.SampleOrEnd e) bs ≡ F.Refused 61
+  later_wrong : (bs : List ℕ) → (get_or bs 0 0 ≡ letter_s → ⊥) → (get_or bs 0 0 ≡ letter_e → ⊥) → read_of (M.SampleOrEnd e) bs ≡ Err R.Shape
   unfolding edition_in later_rows first_field
   later_wrong bs h g = wrong_first (M.SampleOrEnd e) bs o sample (sample_due bs g) refl (other_letter letter_s bs h)
 
@@ -157,10 +158,10 @@ module _ (may : MayCome) (bs : List ℕ) (e : ℕ) (o : is_other_edition e ≡ f
     pub card_front : 0 < length bs → get_or bs 0 0 ≡ letter_c → after_letter e card (take (length bs - 1) (drop 1 bs)) ≡ read_of may bs
     card_front h g = sym (card_read e o (take (length bs - 1) (drop 1 bs))) ∙ ap (read_of (M.Card e)) (lent h letter_c g) ∙ as_card
 
-    pub card_other : (get_or bs 0 0 ≡ letter_c → ⊥) → F.Refused 61 ≡ read_of may bs
+    pub card_other : (get_or bs 0 0 ≡ letter_c → ⊥) → Err R.Shape ≡ read_of may bs
     card_other g = sym (card_wrong e o bs g) ∙ as_card
 
-    pub card_none : length bs ≡ 0 → F.Refused 61 ≡ read_of may bs
+    pub card_none : length bs ≡ 0 → Err R.Shape ≡ read_of may bs
     card_none h = card_other (λ g. absurd (nothing_lem bs h letter_c (omega arith) g))
 
   module _ (m : may ≡ M.SampleOrEnd x) where
@@ -174,10 +175,10 @@ module _ (may : MayCome) (bs : List ℕ) (e : ℕ) (o : is_other_edition e ≡ f
     pub end_front : 0 < length bs → get_or bs 0 0 ≡ letter_e → after_letter e totals (take (length bs - 1) (drop 1 bs)) ≡ read_of may bs
     end_front h g = sym (end_read e o (take (length bs - 1) (drop 1 bs))) ∙ ap (read_of (M.SampleOrEnd e)) (lent h letter_e g) ∙ as_later
 
-    pub later_other : (get_or bs 0 0 ≡ letter_s → ⊥) → (get_or bs 0 0 ≡ letter_e → ⊥) → F.Refused 61 ≡ read_of may bs
+    pub later_other : (get_or bs 0 0 ≡ letter_s → ⊥) → (get_or bs 0 0 ≡ letter_e → ⊥) → Err R.Shape ≡ read_of may bs
     later_other h g = sym (later_wrong e o bs h g) ∙ as_later
 
-    pub later_none : length bs ≡ 0 → F.Refused 61 ≡ read_of may bs
+    pub later_none : length bs ≡ 0 → Err R.Shape ≡ read_of may bs
     later_none h = later_other (λ g. absurd (nothing_lem bs h letter_s (omega arith) g)) (λ g. absurd (nothing_lem bs h letter_e (omega arith) g))
 
 -- for `front_line`

@@ -1,5 +1,7 @@
 -- The round trips: what is written is read back, what is read is what is written, and a line's bytes are its own.
 -- Assumes nothing.
+use Rattle.std.proofs.Common.{Result, Ok, Err}
+use Rattle.lines.specs.declared.line.Front.{Front}
 use mathlib.Core.Path.{◌≡◌, refl, sym, ap, ◌∙◌, subst}
 use mathlib.Core.Bool.{Bool, true, false, cond}
 use mathlib.Core.List.{List, [], ◌∷◌, ◌++◌, append-nil, map}
@@ -11,14 +13,14 @@ use lib.ListN.{length, get_or, take, drop, length-append}
 use lib.Seq.{drop_at, take_at, length-take-le, drop-drop, drop-append_seam}
 use borrow.Author.Tests.{ltb-false, ltb-true, lt-leb}
 use Rattle.quantity.specs.Refusals.{first_of, NoneApplies}
-use Rattle.quantity.specs.declared.refusal.Outcome.{Outcome}
-use Rattle.quantity.specs.declared.refusal.Outcome.TheVariants.{Accepted, Refused}
+use Rattle.quantity.specs.declared.refusal.Refusal.{Refusal}
+use Rattle.quantity.specs.declared.refusal.Refusal.TheVariants as R
 use Rattle.quantity.proofs.Rows.{parts, no_refusal, none_applies, none_of_parts}
 use Rattle.meter.specs.Edition.{is_other_edition}
 use Rattle.lines.specs.Bytes.{letter_c, letter_h, letter_s}
 use Rattle.lines.specs.Number.{decimal, most_digits, some_from, some_long}
 use Rattle.lines.specs.Line.{LineKind, opening, card, sample, totals, kind_of, first_field, all_numbers_of, numbers_of, lacked_of, text_of, bytes_of, opening_in, content_rows, count_of, line_of, opening_length}
-use Rattle.lines.specs.Reading.{is_same, size_of, fields_in, first_in, numbers_in, shape_rows, edition_in, due_kind, line_in, line_rows, later_rows, read_rows, answer_of, read_of, rest_of}
+use Rattle.lines.specs.Reading.{front_of, is_same, size_of, fields_in, first_in, numbers_in, shape_rows, edition_in, due_kind, line_in, line_rows, later_rows, read_rows, answer_of, read_of, rest_of}
 use Rattle.lines.specs.Writing.{Writable, write_rows, place_of, written_of, put_at, buffer_after}
 use Rattle.lines.specs.RoundTrip.{told_in, told_of, WritesBack}
 use Rattle.lines.specs.Theorems.{CanBeWritten, WrittenThenRead, ReadThenWritten, ReadWithin, OneLine, SameBytes, NoOtherBegins}
@@ -27,8 +29,6 @@ use Rattle.lines.specs.declared.line.Line.TheVariants as L
 use Rattle.lines.specs.declared.line.EditionLine.{EditionLine}
 use Rattle.lines.specs.declared.line.MayCome.{MayCome}
 use Rattle.lines.specs.declared.line.MayCome.TheVariants as M
-use Rattle.lines.specs.declared.line.Front.TheVariants as F
-use Rattle.lines.specs.declared.line.Written.TheVariants as W
 use Rattle.lines.proofs.Shape.{line_bytes, shape_forth}
 use Rattle.lines.proofs.LineLaws.{line_of_lem, kind_line, numbers_line, line_lacked_zero}
 use Rattle.lines.proofs.LineBytes.{line_bytes_lem, bytes_fields, bytes_numbers, bytes_size, bytes_shape}
@@ -39,7 +39,7 @@ use Rattle.lines.proofs.WriterRows.{next_place, unrefused, refused_place, by_tex
 -- ---- what is written is read back
 
 reads_opening : (e : ℕ) (rest : List ℕ) → is_other_edition e ≡ false
-    → read_of M.Opening (bytes_of (opening_in e) ++ rest) ≡ F.Read (opening_in e) (length (bytes_of (opening_in e)))
+    → read_of M.Opening (bytes_of (opening_in e) ++ rest) ≡ front_of (opening_in e) (length (bytes_of (opening_in e)))
 reads_opening e rest o =
     opening_read (bytes_of (opening_in e) ++ rest) e o ((opened_exactly (bytes_of (opening_in e) ++ rest) e o).1 (take_at (bytes_of (opening_in e)) rest opening_length (opening_length_lem e o)))
     ∙ rw (opening_length_lem e o)
@@ -50,12 +50,12 @@ module _ (may : MayCome) (line : EditionLine) (rest : List ℕ) where
   bs = bytes_of line ++ rest
 
   reads_due : edition_in may bs ≡ line.edition → due_kind may bs ≡ kind_of line.line → later_rows may bs ≡ line_rows (edition_in may bs) (due_kind may bs) bs
-      → CanBeWritten line → read_of may bs ≡ F.Read line (length (bytes_of line))
+      → CanBeWritten line → read_of may bs ≡ front_of line (length (bytes_of line))
   unfolding line_rows answer_of
   reads_due p d later w =
       let k : LineKind = kind_of line.line in
       let same : line_of k (numbers_in bs) ≡ line.line = ap (line_of k) (bytes_numbers line rest) ∙ line_of_lem line w.lacked_zero in
-      let rows : first_of (shape_rows (first_field k) (count_of line.edition k) bs ++ content_rows (line_of k (numbers_in bs))) ≡ Accepted =
+      let rows : first_of (shape_rows (first_field k) (count_of line.edition k) bs ++ content_rows (line_of k (numbers_in bs))) ≡ Ok tt =
       parts (shape_rows (first_field k) (count_of line.edition k) bs) (content_rows (line_of k (numbers_in bs)))
       ∙ rw (bytes_shape line rest w.short, same) (no_refusal (content_rows line.line) w.content) in
       by_due may bs (rw p w.edition) k d later ∙ rw (p, rows, same, bytes_size line rest)
@@ -64,13 +64,13 @@ first_read : (line : EditionLine) (rest : List ℕ) → first_in (bytes_of line 
 first_read line rest = ap (λ (fs : List (List ℕ)). get_or fs 0 []) (bytes_fields line rest)
 
 -- LAW: the bytes of a line that no row of the writer refuses are read as that line
-pub reads_line : (line : EditionLine) (rest : List ℕ) → CanBeWritten line → read_of (told_of line) (bytes_of line ++ rest) ≡ F.Read line (length (bytes_of line))
+pub reads_line : (line : EditionLine) (rest : List ℕ) → CanBeWritten line → read_of (told_of line) (bytes_of line ++ rest) ≡ front_of line (length (bytes_of line))
 unfolding told_in is_same edition_in due_kind later_rows kind_of first_field
 reads_line l rest w = by l.edition l.line w
   where
     by : (e : ℕ) (line : Line) → CanBeWritten (record { edition = e; line = line })
         → read_of (told_in e line) (bytes_of (record { edition = e; line = line }) ++ rest)
-        ≡ F.Read (record { edition = e; line = line }) (length (bytes_of (record { edition = e; line = line })))
+        ≡ front_of (record { edition = e; line = line }) (length (bytes_of (record { edition = e; line = line })))
     by e L.Opening w = reads_opening e rest w.edition
     by e (L.Card c) w = reads_due (M.Card e) (record { edition = e; line = L.Card c }) rest refl refl refl w
     by e (L.Sample s) w =
@@ -93,7 +93,7 @@ written_then_read buf at line next e =
     let after : drop at (put_at buf at (bytes_of line)) ≡ bytes_of line ++ drop (at + length (bytes_of line)) buf = put_from buf at (bytes_of line) w.within in
     let size : next - at ≡ length (bytes_of line) = omega (arith, p.1) in
     let place : at + (next - at) ≡ next = omega (arith, p.1) in
-    let again : read_of (told_of line) (drop at (put_at buf at (bytes_of line))) ≡ F.Read line (next - at) =
+    let again : read_of (told_of line) (drop at (put_at buf at (bytes_of line))) ≡ front_of line (next - at) =
     rw (after, size) (reads_line line (drop (at + length (bytes_of line)) buf) w.can) in
     record {
       answer = again;
@@ -105,27 +105,29 @@ written_then_read buf at line next e =
 
 -- ---- what is read is what is written
 
-answered : (line got : EditionLine) (n m : ℕ) (o : Outcome) → answer_of got m o ≡ F.Read line n → (o ≡ Accepted) × ((got ≡ line) × (m ≡ n))
+answered : (line got : EditionLine) (n m : ℕ) (o : Result Unit Refusal) → answer_of got m o ≡ front_of line n → (o ≡ Ok tt) × ((got ≡ line) × (m ≡ n))
 unfolding answer_of
-answered line got n m Accepted e = (refl, (cc e, cc e))
-answered line got n m (Refused r) e = absurd (let z : ◌≡◌ {A = ℕ} 0 1 = cc e in omega arith)
+answered line got n m (Ok u) e =
+    let same : record { line = got; size = m } ≡ record { line = line; size = n } = cc e in
+    (refl, (ap (λ (f : Front). f.line) same, ap (λ (f : Front). f.size) same))
+answered line got n m (Err r) e = absurd (let z : ◌≡◌ {A = ℕ} 0 1 = cc e in omega arith)
 
 -- the writer refuses a line that can be written only for the buffer's sake
-refused_place_or_room : (line : EditionLine) → CanBeWritten line → (size at r : ℕ) → written_of size at line ≡ W.Refused r → (r ≡ 67) ⊎ (r ≡ 66)
+refused_place_or_room : (line : EditionLine) → CanBeWritten line → (size at : ℕ) (r : Refusal) → written_of size at line ≡ Err r → (r ≡ R.PlaceBeyond) ⊎ (r ≡ R.Room)
 unfolding written_of place_of
 refused_place_or_room line w size at r e =
-    elim (ltb size at) as (λ t. ltb size at ≡ t → (r ≡ 67) ⊎ (r ≡ 66)) [
-      | true ↦ λ t. inl (number (first_of (write_rows size at line)) 67 (refused_place size at line (ltb-true size at t)) e)
+    elim (ltb size at) as (λ t. ltb size at ≡ t → (r ≡ R.PlaceBeyond) ⊎ (r ≡ R.Room)) [
+      | true ↦ λ t. inl (number (first_of (write_rows size at line)) R.PlaceBeyond (refused_place size at line (ltb-true size at t)) e)
       | false ↦ λ t. inr (room (ltb (size - at) (length (bytes_of line)))
           (by_text size at line (ltb-false size at t) w.edition (no_refusal (content_rows line.line) w.content) ∙ text_room (size - at) line w))
     ] refl
   where
-    number : (o : Outcome) (k : ℕ) → o ≡ Refused k → place_of (at + length (bytes_of line)) o ≡ W.Refused r → r ≡ k
-    number o k c d = let f : W.Refused k ≡ W.Refused r = rw c at d in sym (cc f)
+    number : (o : Result Unit Refusal) (k : Refusal) → o ≡ Err k → place_of (at + length (bytes_of line)) o ≡ Err r → r ≡ k
+    number o k c d = let f : Err k ≡ Err r = rw c at d in sym (cc f)
 
-    room : (t : Bool) → first_of (write_rows size at line) ≡ cond t (Refused 66) Accepted → r ≡ 66
-    room true c = number (first_of (write_rows size at line)) 66 c e
-    room false c = let f : W.Next (at + length (bytes_of line)) ≡ W.Refused r = rw c at e in absurd (let z : ◌≡◌ {A = ℕ} 0 1 = cc f in omega arith)
+    room : (t : Bool) → first_of (write_rows size at line) ≡ cond t (Err R.Room) (Ok tt) → r ≡ R.Room
+    room true c = number (first_of (write_rows size at line)) R.Room c e
+    room false c = let f : Ok (at + length (bytes_of line)) ≡ Err r = rw c at e in absurd (let z : ◌≡◌ {A = ℕ} 0 1 = cc f in omega arith)
 
 -- the line that the bytes are
 writes_line : (may : MayCome) (bs : List ℕ) (line : EditionLine) → told_of line ≡ may → bs ≡ bytes_of line ++ drop (size_of bs) bs → CanBeWritten line
@@ -140,7 +142,7 @@ writes_line may bs line t b w = record {
 }
 
 -- after the row of the edition
-rows_after : (may : MayCome) (bs : List ℕ) → first_of (read_rows may bs) ≡ Accepted → (is_other_edition (edition_in may bs) ≡ false) × NoneApplies (later_rows may bs)
+rows_after : (may : MayCome) (bs : List ℕ) → first_of (read_rows may bs) ≡ Ok tt → (is_other_edition (edition_in may bs) ≡ false) × NoneApplies (later_rows may bs)
 unfolding read_rows
 rows_after may bs e = none_applies (read_rows may bs) e
 

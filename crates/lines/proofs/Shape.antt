@@ -1,5 +1,6 @@
 -- The shape of a line: a first field and numbers that are joined have it, and bytes that have it are joined of those.
 -- Assumes nothing.
+use Rattle.std.proofs.Common.{Ok}
 use mathlib.Core.Path.{◌≡◌, refl, sym, ap, ◌∙◌}
 use mathlib.Core.Bool.{true, false, not, ◌||◌}
 use mathlib.Core.List.{List, [], ◌∷◌, ◌++◌, append_assoc, map}
@@ -9,7 +10,6 @@ use lib.Dec.{leb, eqb}
 use lib.ListN.{length, drop, length-append, length-map}
 use borrow.Author.Tests.{eq-eqb, ne_eqb, eqb-true, leb-false, lt-leb, not-false}
 use Rattle.quantity.specs.Refusals.{first_of}
-use Rattle.quantity.specs.declared.refusal.Outcome.TheVariants.{Accepted}
 use Rattle.quantity.proofs.Rows.{none_applies, no_refusal}
 use Rattle.quantity.proofs.Conditions.{neither, both}
 use Rattle.lines.specs.Bytes.{line_feed, comma}
@@ -105,7 +105,7 @@ module _ (first ns rest : List ℕ) (p : Plain first) where
   well_shaped = simp (ended_back, fields_back, same_refl first, eq-eqb (length (map decimal ns)) (length ns) (length-map ns decimal))
 
   -- LAW: the bytes of a line have its shape
-  pub shape_back : some_long ns ≡ false → first_of (shape_rows first (length ns) (line_bytes first ns rest)) ≡ Accepted
+  pub shape_back : some_long ns ≡ false → first_of (shape_rows first (length ns) (line_bytes first ns rest)) ≡ Ok tt
   unfolding shape_rows
   shape_back h = no_refusal (shape_rows first (length ns) (line_bytes first ns rest)) (well_shaped, (rw fields_back (ap not (decimals_numbers ns h)), tt))
 
@@ -117,7 +117,7 @@ pub record IsLine (first : List ℕ) (count : ℕ) (bs : List ℕ) : Type 0 wher
   pub bytes : bs ≡ line_bytes first (numbers_in bs) (drop (size_of bs) bs)
 
 -- LAW: bytes that have a line's shape are a line's, with what follows it
-pub shape_forth : (first : List ℕ) (count : ℕ) (bs : List ℕ) → first_of (shape_rows first count bs) ≡ Accepted → IsLine first count bs
+pub shape_forth : (first : List ℕ) (count : ℕ) (bs : List ℕ) → first_of (shape_rows first count bs) ≡ Ok tt → IsLine first count bs
 unfolding shape_rows is_misshapen fields_in
 shape_forth first count bs h =
     let n = none_applies (shape_rows first count bs) h in

@@ -1,15 +1,17 @@
 -- The writer's rows: by stages, what holds where none refuses, and which lines are writable.
 -- Assumes nothing.
+use Rattle.std.proofs.Common.{Result, Ok, Err}
 use mathlib.Core.Path.{◌≡◌, refl, sym, ap, ◌∙◌}
 use mathlib.Core.Bool.{true, false, cond}
+use mathlib.Core.List.{[], ◌∷◌, ◌++◌}
 use Prim.Native.Nat.{ℕ, ◌+◌, ◌-◌, ◌≤◌, ◌<◌}
 use native.Mathlib.Omega.{arith}
 use lib.Dec.{ltb}
 use lib.ListN.{length}
 use borrow.Author.Tests.{lt-ltb, le-ltb, ltb-false}
-use Rattle.quantity.specs.Refusals.{first_of}
-use Rattle.quantity.specs.declared.refusal.Outcome.{Outcome}
-use Rattle.quantity.specs.declared.refusal.Outcome.TheVariants.{Accepted, Refused}
+use Rattle.quantity.specs.Refusals.{row, first_of}
+use Rattle.quantity.specs.declared.refusal.Refusal.{Refusal}
+use Rattle.quantity.specs.declared.refusal.Refusal.TheVariants as R
 use Rattle.quantity.proofs.Rows.{parts, or_else, none_applies, no_refusal, none_of_parts}
 use Rattle.quantity.proofs.Conditions.{neither}
 use Rattle.meter.specs.Edition.{is_other_edition}
@@ -18,16 +20,11 @@ use Rattle.lines.specs.Line.{numbers_of, lacked_of, bytes_of, content_rows}
 use Rattle.lines.specs.Writing.{text_rows, write_rows, place_of, written_of, Writable}
 use Rattle.lines.specs.Theorems.{CanBeWritten, WritableExactly}
 use Rattle.lines.specs.declared.line.EditionLine.{EditionLine}
-use Rattle.lines.specs.declared.line.Written.TheVariants as W
 
 module _ (size at : ℕ) (line : EditionLine) where
-  pub refused_place : size < at → first_of (write_rows size at line) ≡ Refused 67
+  pub refused_place : size < at → first_of (write_rows size at line) ≡ Err R.PlaceBeyond
   unfolding write_rows first_of
   refused_place h = simp (lt-ltb size at h)
-
-  pub refused_edition : at ≤ size → is_other_edition line.edition ≡ true → first_of (write_rows size at line) ≡ Refused 60
-  unfolding write_rows first_of
-  refused_edition h o = simp (le-ltb size at h, o)
 
   -- after those two rows
   module _ (h : at ≤ size) (o : is_other_edition line.edition ≡ false) where
@@ -35,11 +32,30 @@ module _ (size at : ℕ) (line : EditionLine) where
     unfolding write_rows first_of
     by_content = simp (le-ltb size at h, o) (parts (content_rows line.line) (text_rows (size - at) line))
 
-    pub refused_content : (r : ℕ) → first_of (content_rows line.line) ≡ Refused r → first_of (write_rows size at line) ≡ Refused r
-    refused_content r e = by_content ∙ rw e
-
-    pub by_text : first_of (content_rows line.line) ≡ Accepted → first_of (write_rows size at line) ≡ first_of (text_rows (size - at) line)
+    pub by_text : first_of (content_rows line.line) ≡ Ok tt → first_of (write_rows size at line) ≡ first_of (text_rows (size - at) line)
     by_text e = by_content ∙ rw e
+
+  -- by stages: the place and the edition, the content, the text
+  abbrev pub before_content : Result Unit Refusal
+  before_content = first_of (row R.PlaceBeyond (ltb size at) ∷ row R.Edition (is_other_edition line.edition) ∷ [])
+
+  in_stages : first_of (write_rows size at line) ≡ or_else before_content (or_else (first_of (content_rows line.line)) (first_of (text_rows (size - at) line)))
+  unfolding write_rows
+  in_stages =
+      parts (row R.PlaceBeyond (ltb size at) ∷ row R.Edition (is_other_edition line.edition) ∷ []) (content_rows line.line ++ text_rows (size - at) line)
+      ∙ ap (or_else before_content) (parts (content_rows line.line) (text_rows (size - at) line))
+
+  pub first_stage : (r : Refusal) → before_content ≡ Err r → Err r ≡ first_of (write_rows size at line)
+  first_stage r e = sym (in_stages ∙ rw e)
+
+  pub second_stage : before_content ≡ Ok tt → (r : Refusal) → first_of (content_rows line.line) ≡ Err r → Err r ≡ first_of (write_rows size at line)
+  second_stage f r e = sym (in_stages ∙ rw (f, e))
+
+  pub third_stage : before_content ≡ Ok tt → first_of (content_rows line.line) ≡ Ok tt → first_of (text_rows (size - at) line) ≡ first_of (write_rows size at line)
+  third_stage f e = sym (in_stages ∙ rw (f, e))
+
+  pub place_within : before_content ≡ Ok tt → at ≤ size
+  place_within e = ltb-false size at (none_applies (row R.PlaceBeyond (ltb size at) ∷ row R.Edition (is_other_edition line.edition) ∷ []) e).0
 
   -- what holds where no row refuses
   pub record Unrefused : Type 0 where
@@ -47,7 +63,7 @@ module _ (size at : ℕ) (line : EditionLine) where
     pub can : CanBeWritten line
     pub room : at + length (bytes_of line) ≤ size
 
-  pub unrefused : first_of (write_rows size at line) ≡ Accepted → Unrefused
+  pub unrefused : first_of (write_rows size at line) ≡ Ok tt → Unrefused
   unfolding write_rows
   unrefused e =
       let n = none_applies (write_rows size at line) e in
@@ -62,16 +78,16 @@ module _ (size at : ℕ) (line : EditionLine) where
       }
 
 -- for `write_refusal`
-pub ruleset stages = (refused_place, refused_edition, refused_content, by_text)
+pub ruleset stages = (first_stage, second_stage, third_stage, place_within)
 
 -- a next place is answered where no row refuses
-pub next_place : (next n : ℕ) (o : Outcome) → place_of n o ≡ W.Next next → (o ≡ Accepted) × (next ≡ n)
+pub next_place : (next n : ℕ) (o : Result Unit Refusal) → place_of n o ≡ Ok next → (o ≡ Ok tt) × (next ≡ n)
 unfolding place_of
-next_place next n Accepted e = (refl, sym (cc e))
-next_place next n (Refused r) e = absurd (let z : ◌≡◌ {A = ℕ} 0 1 = cc e in omega arith)
+next_place next n (Ok u) e = (refl, sym (cc e))
+next_place next n (Err r) e = absurd (let z : ◌≡◌ {A = ℕ} 0 1 = cc e in omega arith)
 
 -- the rows of such a line's text are those of the room alone
-pub text_room : (room : ℕ) (line : EditionLine) → CanBeWritten line → first_of (text_rows room line) ≡ cond (ltb room (length (bytes_of line))) (Refused 66) Accepted
+pub text_room : (room : ℕ) (line : EditionLine) → CanBeWritten line → first_of (text_rows room line) ≡ cond (ltb room (length (bytes_of line))) (Err R.Room) (Ok tt)
 unfolding first_of
 text_room room line c = simp (c.short, c.lacked_zero)
 
@@ -88,7 +104,7 @@ writable_exactly line = (forth, back)
     back : CanBeWritten line → Writable line
     back c =
         let size : ℕ = length (bytes_of line) in
-        let accepted : first_of (write_rows size 0 line) ≡ Accepted =
+        let accepted : first_of (write_rows size 0 line) ≡ Ok tt =
         by_text size 0 line (omega arith) c.edition (no_refusal (content_rows line.line) c.content)
         ∙ text_room (size - 0) line c
         ∙ rw (le-ltb (size - 0) size (omega arith)) in

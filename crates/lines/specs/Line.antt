@@ -1,10 +1,11 @@
 -- The lines of an archive, document 01, "Archive text", each in its edition (document 02, requests 2 and 5), and the bytes of each.
 use Rattle.std.specs.Prelude.{ℕ, cond, List, [], ◌∷◌, ◌++◌, map, get_or, take, drop}
-use Rattle.quantity.specs.Refusals.{Row}
+use Rattle.quantity.specs.declared.refusal.Row.{Row}
 use Rattle.meter.specs.Edition.{keeps_seconds, counts_cold}
 use Rattle.meter.specs.Card.{fields_of, card_fields, card_rows}
 use Rattle.meter.specs.declared.card.Card.{Card}
 use Rattle.meter.specs.declared.sample.Sample.{Sample}
+use Rattle.meter.specs.declared.state.Meter.{Meter}
 use Rattle.lines.specs.Bytes.{line_feed, comma, letter_c, letter_e, letter_s, archive_word}
 use Rattle.lines.specs.Number.{decimal}
 use Rattle.lines.specs.declared.line.Line.{Line}
@@ -40,7 +41,17 @@ count_of e card = card_fields
 count_of e sample = 4
 count_of e totals = cond (counts_cold e) 6 (cond (keeps_seconds e) 5 4)
 
--- those of a meter's end state
+-- the totals of a meter's end state, and their numbers
+abbrev pub totals_of : Meter → Totals
+totals_of m = record {
+  accepted = m.accepted;
+  refused = m.refused;
+  register = m.register;
+  volume = m.volume;
+  kept_seconds = m.kept_seconds;
+  cold_register = m.cold_register;
+}
+
 abbrev pub totals_numbers : Totals → List ℕ
 totals_numbers t = t.accepted ∷ t.refused ∷ t.register ∷ t.volume ∷ t.kept_seconds ∷ t.cold_register ∷ []
 

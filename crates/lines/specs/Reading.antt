@@ -1,9 +1,10 @@
 -- What reading one line means, document 01, "Archive text" and the row "Line and audit" of the refusal table, by the edition (document 02,
 -- request 2).
-use Rattle.std.specs.Prelude.{ℕ, zero, suc, ◌+◌, Bool, true, false, not, cond, ◌&&◌, ◌||◌, List, [], ◌∷◌, ◌++◌, map, eqb, length, get_or, take, drop}
-use Rattle.quantity.specs.Refusals.{Row, row, first_of}
-use Rattle.quantity.specs.declared.refusal.Outcome.{Outcome}
-use Rattle.quantity.specs.declared.refusal.Outcome.TheVariants as O
+use Rattle.std.specs.Prelude.{ℕ, zero, suc, ◌+◌, Bool, true, false, not, cond, ◌&&◌, ◌||◌, List, [], ◌∷◌, ◌++◌, map, eqb, length, get_or, take, drop, Result, Ok, Err}
+use Rattle.quantity.specs.Refusals.{row, first_of}
+use Rattle.quantity.specs.declared.refusal.Row.{Row}
+use Rattle.quantity.specs.declared.refusal.Refusal.{Refusal}
+use Rattle.quantity.specs.declared.refusal.Refusal.TheVariants as R
 use Rattle.meter.specs.Edition.{last_edition, is_other_edition}
 use Rattle.lines.specs.Bytes.{line_feed, comma}
 use Rattle.lines.specs.Number.{is_number, value_of}
@@ -12,7 +13,6 @@ use Rattle.lines.specs.declared.line.EditionLine.{EditionLine}
 use Rattle.lines.specs.declared.line.MayCome.{MayCome}
 use Rattle.lines.specs.declared.line.MayCome.TheVariants as M
 use Rattle.lines.specs.declared.line.Front.{Front}
-use Rattle.lines.specs.declared.line.Front.TheVariants as F
 
 -- the same bytes
 unfoldable pub is_same : List ℕ → List ℕ → Bool
@@ -66,7 +66,7 @@ is_misshapen first count bs = not (is_ended bs) || (not (is_same (first_in bs) f
 
 -- "61 ..; 62 number, left to right"
 unfoldable pub shape_rows : List ℕ → ℕ → List ℕ → List Row
-shape_rows first count bs = row 61 (is_misshapen first count bs) ∷ row 62 (not (are_numbers (others_in bs))) ∷ []
+shape_rows first count bs = row R.Shape (is_misshapen first count bs) ∷ row R.Number (not (are_numbers (others_in bs))) ∷ []
 
 -- "The opening's reader answers the edition": the one, of those up to e, whose opening the bytes begin with; 0, which is none, where there is none
 unfoldable pub opened_up_to : ℕ → List ℕ → ℕ
@@ -101,17 +101,20 @@ later_rows (M.SampleOrEnd e) bs = line_rows e (due_kind (M.SampleOrEnd e) bs) bs
 
 -- "60 opening" is anything but an edition's opening; and the other line operations "meet another one with 60", before all else
 unfoldable pub read_rows : MayCome → List ℕ → List Row
-read_rows may bs = row 60 (is_other_edition (edition_in may bs)) ∷ later_rows may bs
+read_rows may bs = row R.Edition (is_other_edition (edition_in may bs)) ∷ later_rows may bs
 
--- what the reader answers: the line in its edition and how many bytes it takes, or the first row's number
-unfoldable pub answer_of : EditionLine → ℕ → Outcome → Front
-answer_of line n O.Accepted = F.Read line n
-answer_of line n (O.Refused r) = F.Refused r
+-- what the reader answers: the line in its edition and how many bytes it takes, or the first row's refusal
+abbrev pub front_of : EditionLine → ℕ → Result Front Refusal
+front_of line n = Ok (record { line = line; size = n })
 
-unfoldable pub read_of : MayCome → List ℕ → Front
+unfoldable pub answer_of : EditionLine → ℕ → Result Unit Refusal → Result Front Refusal
+answer_of line n (Ok u) = front_of line n
+answer_of line n (Err r) = Err r
+
+unfoldable pub read_of : MayCome → List ℕ → Result Front Refusal
 read_of may bs = answer_of (line_in may bs) (size_of bs) (first_of (read_rows may bs))
 
 -- "hands back the part of the caller's bytes after it", and "A refused line hands back its refusal number and an empty part."
-unfoldable pub rest_of : List ℕ → Front → List ℕ
-rest_of bs (F.Read line n) = drop n bs
-rest_of bs (F.Refused r) = []
+unfoldable pub rest_of : List ℕ → Result Front Refusal → List ℕ
+rest_of bs (Ok front) = drop front.size bs
+rest_of bs (Err r) = []

@@ -1,19 +1,18 @@
 -- What reader and writer have to do with each other, and what a refusal of the reader says: what the theorems of specs/Theorems.antt give.
-use Rattle.std.specs.Prelude.{◌≡◌, Bool, true, false, List, ◌++◌, ◌⊎◌, ℕ, ◌-◌, length, drop}
+use Rattle.std.specs.Prelude.{◌≡◌, Bool, true, false, List, ◌++◌, ◌⊎◌, ℕ, ◌-◌, length, drop, Err}
 use Rattle.quantity.specs.Refusals.{first_of}
-use Rattle.quantity.specs.declared.refusal.Outcome.TheVariants as O
+use Rattle.quantity.specs.declared.refusal.Refusal.{Refusal}
+use Rattle.quantity.specs.declared.refusal.Refusal.TheVariants as R
 use Rattle.meter.specs.Edition.{is_other_edition}
 use Rattle.meter.specs.Card.{card_rows}
 use Rattle.lines.specs.Line.{first_field, count_of, card_of, bytes_of}
-use Rattle.lines.specs.Reading.{others_in, numbers_in, are_numbers, is_misshapen, due_kind, edition_in, read_of, rest_of}
+use Rattle.lines.specs.Reading.{others_in, numbers_in, are_numbers, is_misshapen, due_kind, edition_in, front_of, read_of, rest_of}
 use Rattle.lines.specs.Writing.{written_of, Writable}
 use Rattle.lines.specs.declared.line.Line.{Line}
 use Rattle.lines.specs.declared.line.Line.TheVariants as L
 use Rattle.lines.specs.declared.line.EditionLine.{EditionLine}
 use Rattle.lines.specs.declared.line.MayCome.{MayCome}
 use Rattle.lines.specs.declared.line.MayCome.TheVariants as M
-use Rattle.lines.specs.declared.line.Front.TheVariants as F
-use Rattle.lines.specs.declared.line.Written.TheVariants as W
 
 -- what may come where a line of an edition stands, as the reader is told
 unfoldable pub told_in : ℕ → Line → MayCome
@@ -28,27 +27,27 @@ told_of l = told_in l.edition l.line
 -- Writing, then reading. Where the writer answered the place next and left the buffer so, what stands from the old place on, read by a reader
 -- told that kind and edition, or finding the edition in the opening, gives the line in its edition and the buffer after next.
 pub record ReadsBack (buf : List ℕ) (at : ℕ) (line : EditionLine) (next : ℕ) : Type 0 where
-  pub answer : read_of (told_of line) (drop at buf) ≡ F.Read line (next - at)
+  pub answer : read_of (told_of line) (drop at buf) ≡ front_of line (next - at)
   pub rest : rest_of (drop at buf) (read_of (told_of line) (drop at buf)) ≡ drop next buf
 
 -- Reading, then writing. Where the reader answered a line and a count of bytes, the line is of a kind that may come and of the edition that was
 -- told, its bytes are those, and the writer can write it: it refuses it only for the buffer's sake.
 pub record WritesBack (may : MayCome) (bs : List ℕ) (line : EditionLine) (n : ℕ) : Type 0 where
   pub kind : told_of line ≡ may
-  pub bytes : bytes_of line ++ rest_of bs (F.Read line n) ≡ bs
+  pub bytes : bytes_of line ++ rest_of bs (front_of line n) ≡ bs
   pub takes : n ≡ length (bytes_of line)
   pub writable : Writable line
-  pub refused_only : (size at r : ℕ) → written_of size at line ≡ W.Refused r → (r ≡ 67) ⊎ (r ≡ 66)
+  pub refused_only : (size at : ℕ) (r : Refusal) → written_of size at line ≡ Err r → (r ≡ R.PlaceBeyond) ⊎ (r ≡ R.Room)
 
 -- the shape of the line that is due
 abbrev pub is_misshapen_due : MayCome → List ℕ → Bool
 is_misshapen_due may bs = is_misshapen (first_field (due_kind may bs)) (count_of (edition_in may bs) (due_kind may bs)) bs
 
--- What a refusal of the reader says: its own condition holds, and none before it. 60 of the opening says that the bytes begin with no edition's.
-pub data Cause (bs : List ℕ) : MayCome → ℕ → Type 0 where
-  other_edition : {may : MayCome} → is_other_edition (edition_in may bs) ≡ true → Cause bs may 60
-  misshapen : {may : MayCome} → (may ≡ M.Opening → ⊥) → is_other_edition (edition_in may bs) ≡ false → is_misshapen_due may bs ≡ true → Cause bs may 61
+-- What a refusal of the reader says: its own condition holds, and none before it. The edition's, of the opening, says that the bytes begin with no edition's.
+pub data Cause (bs : List ℕ) : MayCome → Refusal → Type 0 where
+  other_edition : {may : MayCome} → is_other_edition (edition_in may bs) ≡ true → Cause bs may R.Edition
+  misshapen : {may : MayCome} → (may ≡ M.Opening → ⊥) → is_other_edition (edition_in may bs) ≡ false → is_misshapen_due may bs ≡ true → Cause bs may R.Shape
   no_number : {may : MayCome} → (may ≡ M.Opening → ⊥) → is_other_edition (edition_in may bs) ≡ false → is_misshapen_due may bs ≡ false
-      → are_numbers (others_in bs) ≡ false → Cause bs may 62
-  card_row : (e r : ℕ) → is_other_edition e ≡ false → is_misshapen_due (M.Card e) bs ≡ false → are_numbers (others_in bs) ≡ true
-      → first_of (card_rows (card_of (numbers_in bs))) ≡ O.Refused r → Cause bs (M.Card e) r
+      → are_numbers (others_in bs) ≡ false → Cause bs may R.Number
+  card_row : (e : ℕ) (r : Refusal) → is_other_edition e ≡ false → is_misshapen_due (M.Card e) bs ≡ false → are_numbers (others_in bs) ≡ true
+      → first_of (card_rows (card_of (numbers_in bs))) ≡ Err r → Cause bs (M.Card e) r

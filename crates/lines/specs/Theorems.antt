@@ -1,22 +1,21 @@
 -- The statements of this crate's theorems. Each is proved in proofs/ under the same name in small letters; where a definition has that name, it
 -- ends in `_lem`.
-use Rattle.std.specs.Prelude.{◌≡◌, true, false, ◌||◌, List, [], ◌∷◌, ◌++◌, ◌↔◌, ℕ, ◌+◌, ◌^◌, ◌≤◌, ◌<◌, length, take}
+use Rattle.std.specs.Prelude.{◌≡◌, true, false, ◌||◌, List, [], ◌∷◌, ◌++◌, ◌↔◌, ℕ, ◌+◌, ◌^◌, ◌≤◌, ◌<◌, length, take, Ok, Err}
 use Rattle.quantity.specs.Refusals.{NoneApplies}
+use Rattle.quantity.specs.declared.refusal.Refusal.{Refusal}
 use Rattle.meter.specs.Edition.{is_other_edition}
 use Rattle.meter.specs.Card.{card_rows}
 use Rattle.meter.specs.declared.card.Card.{Card}
 use Rattle.lines.specs.Bytes.{line_feed, comma, digit_zero, archive_word}
 use Rattle.lines.specs.Number.{decimal, value_of, most_digits, is_number, some_long, some_nonzero}
 use Rattle.lines.specs.Line.{LineKind, opening, sample, totals, kind_of, first_field, numbers_of, lacked_of, bytes_of, in_edition, opening_in, content_rows, opening_length, count_of, line_of}
-use Rattle.lines.specs.Reading.{is_same, first_in, due_kind, edition_in, read_of}
+use Rattle.lines.specs.Reading.{is_same, first_in, due_kind, edition_in, front_of, read_of}
 use Rattle.lines.specs.Writing.{written_of, Writable, buffer_after}
 use Rattle.lines.specs.RoundTrip.{ReadsBack, WritesBack, Cause}
 use Rattle.lines.specs.declared.line.EditionLine.{EditionLine}
 use Rattle.lines.specs.declared.line.Line.TheVariants as L
 use Rattle.lines.specs.declared.line.MayCome.{MayCome}
 use Rattle.lines.specs.declared.line.MayCome.TheVariants as M
-use Rattle.lines.specs.declared.line.Front.TheVariants as F
-use Rattle.lines.specs.declared.line.Written.TheVariants as W
 
 -- ---- numbers
 
@@ -94,9 +93,9 @@ CardShort =
 
 -- ---- reader
 
--- the reader refuses with a number exactly where that number's own condition is the first that holds
+-- the reader gives a refusal exactly where that refusal's own condition is the first that holds
 abbrev pub RefusedExactly : Type 0
-RefusedExactly = (may : MayCome) (bs : List ℕ) (r : ℕ) → (read_of may bs ≡ F.Refused r) ↔ Cause bs may r
+RefusedExactly = (may : MayCome) (bs : List ℕ) (r : Refusal) → (read_of may bs ≡ Err r) ↔ Cause bs may r
 
 -- the opening's reader finds an edition exactly where the bytes begin with its opening
 abbrev pub OpenedExactly : Type 0
@@ -111,7 +110,7 @@ EitherLetter =
 
 -- a line that was read takes at least one byte and no more than there are
 abbrev pub ReadWithin : Type 0
-ReadWithin = (may : MayCome) (bs : List ℕ) (line : EditionLine) (n : ℕ) → read_of may bs ≡ F.Read line n → (1 ≤ n) × (n ≤ length bs)
+ReadWithin = (may : MayCome) (bs : List ℕ) (line : EditionLine) (n : ℕ) → read_of may bs ≡ front_of line n → (1 ≤ n) × (n ≤ length bs)
 
 -- ---- round trips
 
@@ -119,8 +118,8 @@ ReadWithin = (may : MayCome) (bs : List ℕ) (line : EditionLine) (n : ℕ) → 
 abbrev pub WrittenThenRead : Type 0
 WrittenThenRead =
     (buf : List ℕ) (at : ℕ) (line : EditionLine) (next : ℕ)
-    → written_of (length buf) at line ≡ W.Next next → ReadsBack (buffer_after buf at (bytes_of line) (W.Next next)) at line next
+    → written_of (length buf) at line ≡ Ok next → ReadsBack (buffer_after buf at (bytes_of line) (Ok next)) at line next
 
 -- a line that was read is written as it was
 abbrev pub ReadThenWritten : Type 0
-ReadThenWritten = (may : MayCome) (bs : List ℕ) (line : EditionLine) (n : ℕ) → read_of may bs ≡ F.Read line n → WritesBack may bs line n
+ReadThenWritten = (may : MayCome) (bs : List ℕ) (line : EditionLine) (n : ℕ) → read_of may bs ≡ front_of line n → WritesBack may bs line n

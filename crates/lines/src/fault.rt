@@ -3,11 +3,17 @@ ghost use Rattle.std.specs.Prelude.{◌≡◌, ◌==◌, not, cond, [], length, 
 ghost use Rattle.lines.specs.Bytes.{line_feed, comma};
 ghost use Rattle.lines.specs.Reading.{is_same, is_ended, first_in, others_in, is_misshapen};
 
-// 61 for a line that has not its shape, and otherwise 62, by what follows its letter.
-pub(crate) fn fault_number(after: &[u8], count: usize) -> u64
-    ensures { result ≡ cond (is_misshapen [] count after.now) 61 62 }
+use quantity::Refusal;
+
+// That of the shape for a line that has not its shape, and otherwise that of a number, by what follows its letter.
+pub(crate) fn fault(after: &[u8], count: usize) -> Refusal
+    ensures { result ≡ cond (is_misshapen [] count after.now) Refusal.Shape Refusal.Number }
 {
-    if is_misshapen(after, count) { 61 } else { 62 }
+    if is_misshapen(after, count) {
+        Refusal::Shape
+    } else {
+        Refusal::Number
+    }
 }
 
 // Whether the line is unended, its first field is not the letter alone, or it has not count numbers.

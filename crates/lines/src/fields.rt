@@ -1,20 +1,21 @@
 // The numbers of a line, read one after the other.
 ghost use Rattle.lines.specs.Inside.Parts.{NumbersRead};
 
-use crate::fault::fault_number;
+use crate::fault::fault;
 use crate::number::read_field;
+use quantity::Refusal;
 
 // Reads the numbers after a line's letter into out, as many as it holds, and answers how many bytes the line takes, its letter among them, or the
-// refusal's number.
+// refusal.
 #[tactic(auto, using(crate::proofs::Turns::ends))]
-pub(crate) fn read_numbers(after: &[u8], out: &mut [u64]) -> Result<usize, u64>
+pub(crate) fn read_numbers(after: &[u8], out: &mut [u64]) -> Result<usize, Refusal>
     ensures { NumbersRead after.now out.new result }
 {
     let count = out.len();
     let mut at: usize = 0;
     for place in out.iter_mut() {
         let Some(number) = read_field(&after[at..]) else {
-            return Err(fault_number(after, count));
+            return Err(fault(after, count));
         };
         *place = number.value;
         at += number.size;
@@ -22,6 +23,6 @@ pub(crate) fn read_numbers(after: &[u8], out: &mut [u64]) -> Result<usize, u64>
     if after.get(at) == Some(&b'\n') {
         Ok(at + 2)
     } else {
-        Err(fault_number(after, count))
+        Err(fault(after, count))
     }
 }

@@ -4,11 +4,12 @@ ghost use Rattle.lines.specs.Reading.{read_of, rest_of};
 
 use crate::line::{Front, MayCome};
 use crate::reading::{front_line, rest_of};
+use quantity::Refusal;
 
 // What stands at the front of the caller's bytes, and the part of them after it.
 #[derive(Clone, Copy)]
 pub struct ReadLine<'a> {
-    pub front: Front,
+    pub front: Result<Front, Refusal>,
     pub rest: &'a [u8],
 }
 

@@ -13,7 +13,7 @@ mod report;
 mod writing;
 
 pub use held::{ReadLine, read_line};
-pub use line::{EditionLine, Front, Line, MayCome, Totals, Written};
+pub use line::{EditionLine, Front, Line, MayCome, RefusedAt, Totals};
 pub use opening::OPENING_LENGTH;
 pub use reading::{front_line, rest_after};
 pub use report::{OutputLine, Report, report_line};

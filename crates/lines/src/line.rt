@@ -1,5 +1,6 @@
 // The lines of an archive, each in its edition, and what their reader and their writer answer.
-use meter::{Card, Sample};
+use meter::{Card, Meter, Sample};
+use quantity::Refusal;
 
 // What line E carries, in the papers' order: a meter's end state. Every edition's fields stand here; one that an edition lacks is zero.
 #[derive(Clone, Copy, Debug, PartialEq, Eq)]
@@ -48,8 +49,27 @@ impl From<Totals> for [u64; 6] {
     }
 }
 
+// The totals of a meter's end state.
+impl From<Meter> for Totals {
+    ghost use Rattle.std.specs.Prelude.{◌≡◌};
+    ghost use Rattle.lines.specs.Line.{totals_of};
+
+    ghost from_gives = { λ m t. t ≡ totals_of m };
+
+    fn from(m: Meter) -> Totals {
+        Totals {
+            accepted: m.accepted,
+            refused: m.refused,
+            register: m.register,
+            volume: m.volume,
+            kept_seconds: m.kept_seconds,
+            cold_register: m.cold_register,
+        }
+    }
+}
+
 // A line, by its kind. Any content can stand here.
-#[derive(Clone, Copy)]
+#[derive(Clone, Copy, Debug, PartialEq, Eq)]
 pub enum Line {
     Opening,
     Card(Card),
@@ -58,7 +78,7 @@ pub enum Line {
 }
 
 // What is read and written: a line in its edition. The opening names the edition; the other lines stand in that of their opening.
-#[derive(Clone, Copy)]
+#[derive(Clone, Copy, Debug, PartialEq, Eq)]
 pub struct EditionLine {
     pub edition: u64,
     pub line: Line,
@@ -72,16 +92,16 @@ pub enum MayCome {
     SampleOrEnd(u64),
 }
 
-// What stands at the front of some bytes: a line in its edition and how many bytes it takes, or the refusal's number.
-#[derive(Clone, Copy)]
-pub enum Front {
-    Read(EditionLine, usize),
-    Refused(u64),
+// What stands at the front of some bytes: a line in its edition, and how many bytes it takes.
+#[derive(Clone, Copy, Debug, PartialEq, Eq)]
+pub struct Front {
+    pub line: EditionLine,
+    pub size: usize,
 }
 
-// The place after the line that was written, or the refusal's number.
-#[derive(Clone, Copy)]
-pub enum Written {
-    Next(usize),
-    Refused(u64),
+// The refusal of a file, and the number of the line at which it stands.
+#[derive(Clone, Copy, Debug, PartialEq, Eq)]
+pub struct RefusedAt {
+    pub refusal: Refusal,
+    pub line: u64,
 }

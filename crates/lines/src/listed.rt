@@ -7,7 +7,7 @@ ghost use Rattle.lines.specs.Inside.Parts.{parted_at, numbers_parted, most_numbe
 
 use crate::line::{EditionLine, Line};
 use crate::number::width;
-use meter::{CARD_FIELDS, counts_cold, keeps_seconds};
+use meter::{CARD_FIELDS, SAMPLE_FIELDS, counts_cold, keeps_seconds};
 use std::marker::Model;
 
 // The card's line has the most numbers.
@@ -67,33 +67,14 @@ impl Listed {
 }
 
 // The numbers of a line in its edition, in the papers' order.
-#[tactic(auto, unfolding(crate::specs::Line::kind_of, crate::specs::Line::count_of, crate::specs::Line::all_numbers_of, meter::specs::Card::fields_of))]
+#[tactic(auto, unfolding(crate::specs::Line::kind_of, crate::specs::Line::count_of, crate::specs::Line::all_numbers_of, meter::specs::Card::fields_of, meter::specs::Sample::fields_of))]
 pub(crate) fn numbers_of(what: EditionLine) -> Listed
     ensures { result ≡ numbers_parted what }
 {
     match what.line {
         Line::Opening => Listed::new(&[what.edition], 1),
-        Line::Card(c) => Listed::new(
-            &[
-                c.serial,
-                c.place,
-                c.sensor,
-                c.ml_per_pulse,
-                c.theta_min,
-                c.theta_max,
-                c.delta_min,
-                c.delta_max,
-                c.qi,
-                c.qp,
-                c.qs,
-                c.ps,
-            ],
-            CARD_FIELDS,
-        ),
-        Line::Sample(s) => Listed::new(
-            &[s.pulses, s.seconds, s.supply_reading, s.return_reading],
-            4,
-        ),
+        Line::Card(c) => Listed::new(&<[u64; CARD_FIELDS]>::from(c), CARD_FIELDS),
+        Line::Sample(s) => Listed::new(&<[u64; SAMPLE_FIELDS]>::from(s), SAMPLE_FIELDS),
         Line::End(t) => Listed::new(&<[u64; 6]>::from(t), totals_count(what.edition)),
     }
 }

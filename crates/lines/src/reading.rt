@@ -8,34 +8,34 @@ use crate::fields::read_numbers;
 use crate::line::{EditionLine, Front, Line, MayCome, Totals};
 use crate::listed::{MOST_LATER, totals_count};
 use crate::opening::{OPENING_LENGTH, opened_edition};
-use meter::{CARD_FIELDS, Card, Sample, is_other_edition};
-use quantity::Outcome;
+use meter::{CARD_FIELDS, Card, SAMPLE_FIELDS, Sample, is_other_edition};
+use quantity::Refusal;
 
 // What stands at the front of bytes, told what may come. Another edition is met before all else.
 #[tactic(auto, using(crate::proofs::ReaderRows::by_byte), unfolding(crate::specs::Reading::edition_in))]
-pub fn front_line(bytes: &[u8], may_come: MayCome) -> Front
+pub fn front_line(bytes: &[u8], may_come: MayCome) -> Result<Front, Refusal>
     ensures { result ≡ read_of may_come bytes.now }
 {
     let edition = edition_in(bytes, may_come);
     if is_other_edition(edition) {
-        return Front::Refused(60);
+        return Err(Refusal::Edition);
     }
     match may_come {
-        MayCome::Opening => Front::Read(
-            EditionLine {
+        MayCome::Opening => Ok(Front {
+            line: EditionLine {
                 edition,
                 line: Line::Opening,
             },
-            OPENING_LENGTH,
-        ),
+            size: OPENING_LENGTH,
+        }),
         MayCome::Card(_) => match bytes {
             [b'C', after @ ..] => front_card(after, edition),
-            _ => Front::Refused(61),
+            _ => Err(Refusal::Shape),
         },
         MayCome::SampleOrEnd(_) => match bytes {
             [b'S', after @ ..] => front_sample(after, edition),
             [b'E', after @ ..] => front_end(after, edition),
-            _ => Front::Refused(61),
+            _ => Err(Refusal::Shape),
         },
     }
 }
@@ -55,67 +55,44 @@ fn edition_in(bytes: &[u8], may_come: MayCome) -> u64
 // instructions more.
 
 // The card's line, by what follows its letter. The card's own rows come after those of the line's shape.
-fn front_card(after: &[u8], edition: u64) -> Front
+fn front_card(after: &[u8], edition: u64) -> Result<Front, Refusal>
     ensures { result ≡ after_letter edition card after.now }
 {
     let mut fields = [0u64; CARD_FIELDS];
-    let size = match read_numbers(after, &mut fields) {
-        Ok(size) => size,
-        Err(number) => return Front::Refused(number),
+    let size = read_numbers(after, &mut fields)?;
+    let card = Card::from(fields);
+    card.refusal()?;
+    let line = EditionLine {
+        edition,
+        line: Line::Card(card),
     };
-    let card = Card::from_fields(fields);
-    match card.refusal() {
-        Outcome::Accepted => Front::Read(
-            EditionLine {
-                edition,
-                line: Line::Card(card),
-            },
-            size,
-        ),
-        Outcome::Refused(number) => Front::Refused(number),
-    }
+    Ok(Front { line, size })
 }
 
 // A sample's line, by what follows its letter.
-fn front_sample(after: &[u8], edition: u64) -> Front
+fn front_sample(after: &[u8], edition: u64) -> Result<Front, Refusal>
     ensures { result ≡ after_letter edition sample after.now }
 {
-    let mut numbers = [0u64; 4];
-    match read_numbers(after, &mut numbers) {
-        Ok(size) => {
-            let sample = Sample {
-                pulses: numbers[0],
-                seconds: numbers[1],
-                supply_reading: numbers[2],
-                return_reading: numbers[3],
-            };
-            Front::Read(
-                EditionLine {
-                    edition,
-                    line: Line::Sample(sample),
-                },
-                size,
-            )
-        }
-        Err(number) => Front::Refused(number),
-    }
+    let mut numbers = [0u64; SAMPLE_FIELDS];
+    let size = read_numbers(after, &mut numbers)?;
+    let line = EditionLine {
+        edition,
+        line: Line::Sample(Sample::from(numbers)),
+    };
+    Ok(Front { line, size })
 }
 
 // The last line, by what follows its letter. Where its edition has fewer numbers than there are places, the others are zero.
-fn front_end(after: &[u8], edition: u64) -> Front
+fn front_end(after: &[u8], edition: u64) -> Result<Front, Refusal>
     ensures { result ≡ after_letter edition totals after.now }
 {
     let mut numbers = [0u64; MOST_LATER];
-    match read_numbers(after, &mut numbers[..totals_count(edition)]) {
-        Ok(size) => Front::Read(
-            EditionLine {
-                edition,
-                line: Line::End(Totals::from(numbers)),
-            },
-            size,
-        ),
-        Err(number) => Front::Refused(number),
-    }
+    let size = read_numbers(after, &mut numbers[..totals_count(edition)])?;
+    let line = EditionLine {
+        edition,
+        line: Line::End(Totals::from(numbers)),
+    };
+    Ok(Front { line, size })
 }
 
 // The part of bytes after its first n.
@@ -127,11 +104,11 @@ pub fn rest_after(bytes: &[u8], n: usize) -> &[u8]
 
 // The part of bytes after the line that stands at its front; after a refused line, no bytes.
 #[tactic(auto, unfolding(crate::specs::Reading::rest_of))]
-pub(crate) fn rest_of(bytes: &[u8], front: Front) -> &[u8]
+pub(crate) fn rest_of(bytes: &[u8], front: Result<Front, Refusal>) -> &[u8]
     ensures { result.now ≡ rest_of bytes.now front }
 {
     match front {
-        Front::Read(_, n) => rest_after(bytes, n),
-        Front::Refused(_) => &[],
+        Ok(front) => rest_after(bytes, front.size),
+        Err(_) => &[],
     }
 }

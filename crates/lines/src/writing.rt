@@ -6,60 +6,56 @@ ghost use Rattle.lines.specs.Line.{after_commas, text_of, bytes_of, content_rows
 ghost use Rattle.lines.specs.Inside.Parts.{most_numbers, put_front};
 ghost use Rattle.lines.specs.Writing.{text_rows, write_rows, written_of, buffer_after};
 
-use crate::line::{EditionLine, Line, Written};
+use crate::line::{EditionLine, Line};
 use crate::listed::{Listed, fields_length, first_field, has_from, numbers_of};
 use crate::number::{LEAST_LONG, put_field};
 use meter::is_other_edition;
-use quantity::Outcome;
+use quantity::{Refusal, first_refusal};
 
 // Puts a line in its edition into buf from the place at on, and answers the next place.
 #[tactic(auto, using(crate::proofs::WriterRows::unrefused), unfolding(crate::specs::Writing::written_of, crate::specs::Writing::place_of, crate::specs::Writing::buffer_after))]
-pub fn write_line(buf: &mut [u8], at: usize, what: EditionLine) -> Written
+pub fn write_line(buf: &mut [u8], at: usize, what: EditionLine) -> Result<usize, Refusal>
     ensures answer { result ≡ written_of (length buf.old) at what }
     ensures buffer { buf.new ≡ buffer_after buf.old at (bytes_of what) result }
 {
-    match write_refusal(buf.len(), at, what) {
-        Outcome::Accepted => Written::Next(at + put_line(&mut buf[at..], what)),
-        Outcome::Refused(number) => Written::Refused(number),
-    }
+    write_refusal(buf.len(), at, what)?;
+    Ok(at + put_line(&mut buf[at..], what))
 }
 
 // The writer's rows, for a buffer of size bytes.
 #[tactic(auto, using(crate::proofs::WriterRows::stages))]
-fn write_refusal(size: usize, at: usize, what: EditionLine) -> Outcome
+fn write_refusal(size: usize, at: usize, what: EditionLine) -> Result<(), Refusal>
     ensures { result ≡ first_of (write_rows size at what) }
 {
-    if size < at {
-        return Outcome::Refused(67);
-    }
-    if is_other_edition(what.edition) {
-        return Outcome::Refused(60);
-    }
-    match content_refusal(what.line) {
-        Outcome::Accepted => text_refusal(size - at, what),
-        Outcome::Refused(number) => Outcome::Refused(number),
-    }
+    first_refusal(&[
+        Refusal::PlaceBeyond.when(size < at),
+        Refusal::Edition.when(is_other_edition(what.edition)),
+    ])?;
+    content_refusal(what.line)?;
+    text_refusal(size - at, what)
 }
 
 // A card's own rows.
 #[tactic(auto, unfolding(crate::specs::Line::content_rows, quantity::specs::Refusals::first_of))]
-fn content_refusal(line: Line) -> Outcome
+fn content_refusal(line: Line) -> Result<(), Refusal>
     ensures { result ≡ first_of (content_rows line) }
 {
     match line {
         Line::Card(card) => card.refusal(),
-        Line::Opening | Line::Sample(_) | Line::End(_) => Outcome::Accepted,
+        Line::Opening | Line::Sample(_) | Line::End(_) => Ok(()),
     }
 }
 
 // The rows of a line's text, where room bytes follow the place.
-fn text_refusal(room: usize, what: EditionLine) -> Outcome
+fn text_refusal(room: usize, what: EditionLine) -> Result<(), Refusal>
     ensures { result ≡ first_of (text_rows room what) }
 {
     let listed = numbers_of(what);
     let size = text_length(first_field(what.line), listed.shown());
-    let r = Outcome::Accepted.or_row(has_refused_number(&listed), 62);
-    r.or_row(room < size, 66)
+    first_refusal(&[
+        Refusal::Number.when(has_refused_number(&listed)),
+        Refusal::Room.when(room < size),
+    ])
 }
 
 // How many bytes the first field, the numbers and the line's end take.

@@ -1,7 +1,7 @@
 -- What the functions inside reader and writer answer.
 use Rattle.std.specs.Prelude.{◌≡◌, ℕ, zero, suc, ◌+◌, ◌*◌, ◌/◌, ◌%◌, cond, List, [], ◌∷◌, ◌++◌, Option, Some, None, Result, Ok, Err, eqb, length, take, drop}
 use Rattle.quantity.specs.Refusals.{first_of}
-use Rattle.quantity.specs.declared.refusal.Outcome.TheVariants as O
+use Rattle.quantity.specs.declared.refusal.Refusal.{Refusal}
 use Rattle.meter.specs.Card.{card_fields}
 use Rattle.lines.specs.Bytes.{comma, digit_zero}
 use Rattle.lines.specs.Number.{most_digits64, is_digit, most_digits, is_number, value_of}
@@ -36,12 +36,12 @@ field_at (b ∷ bs) = cond (eqb b comma) (one_more (number_at bs)) None
 
 -- By what follows a line's letter: its numbers and the bytes that it takes, its letter among them, where no row of its shape refuses it; or the refusal.
 -- What is left of the first field there is nothing.
-pub data NumbersRead (after out : List ℕ) : Result ℕ ℕ → Type 0 where
-  all_read : first_of (shape_rows [] (length out) after) ≡ O.Accepted → out ≡ numbers_in after → NumbersRead after out (Ok (size_of after + 1))
-  line_refused : (r : ℕ) → first_of (shape_rows [] (length out) after) ≡ O.Refused r → NumbersRead after out (Err r)
+pub data NumbersRead (after out : List ℕ) : Result ℕ Refusal → Type 0 where
+  all_read : first_of (shape_rows [] (length out) after) ≡ Ok tt → out ≡ numbers_in after → NumbersRead after out (Ok (size_of after + 1))
+  line_refused : (r : Refusal) → first_of (shape_rows [] (length out) after) ≡ Err r → NumbersRead after out (Err r)
 
 -- what the reader answers by what follows the letter of a line of a kind
-unfoldable pub after_letter : ℕ → LineKind → List ℕ → Front
+unfoldable pub after_letter : ℕ → LineKind → List ℕ → Result Front Refusal
 after_letter e k after = answer_of (in_edition e line) (size_of after + 1) (first_of (shape_rows [] (count_of e k) after ++ content_rows line))
   where
     line : Line

@@ -3,22 +3,26 @@ use Rattle.std.proofs.Common.{◌∙◌, sym}
 use Rattle.lines.specs.Line.{card, count_of, content_rows}
 use Rattle.lines.proofs.Letters.{none_after, read_after, refused_after}
 use Rattle.lines.proofs.LineLaws.{card_line}
+use Rattle.lines.proofs.Passed.{passed_on}
 use Rattle.lines.proofs.reading.front_card.Goals as goal
 
-pub returns-in-Err : goal.returns-in-Err
+pub returns-in_err-size : goal.returns-in_err-size
 unfolding count_of
-returns-in-Err c = let r = c.read_numbers in none_after c.args.edition card c.args.after.now _ _ r.ensures r.auto.out _ c.in-Err.is
-
-pub returns-in-Accepted : goal.returns-in-Accepted
-unfolding count_of content_rows
-returns-in-Accepted c =
+returns-in_err-size c =
     let r = c.read_numbers in
-    read_after c.args.edition card c.args.after.now _ _ r.ensures r.auto.out _ c.in-Ok.is _ (card_line _ _ c.from_fields-card.ensures)
-    (sym c.in-Accepted.is ∙ c.refusal.ensures)
+    passed_on _ _ c.from_residual.ensures.1 ∙ none_after c.args.edition card c.args.after.now _ _ r.ensures r.auto.out _ c.in_err-size.was
 
-pub returns-in-Refused : goal.returns-in-Refused
+pub returns-in_err-refusal : goal.returns-in_err-refusal
 unfolding count_of content_rows
-returns-in-Refused c =
+returns-in_err-refusal c =
     let r = c.read_numbers in
-    refused_after c.args.edition card c.args.after.now _ _ r.ensures r.auto.out _ c.in-Ok.is _ (card_line _ _ c.from_fields-card.ensures)
-    _ (sym c.in-Refused.is ∙ c.refusal.ensures)
+    passed_on _ _ c.from_residual-in_err-refusal.ensures.1
+    ∙ refused_after c.args.edition card c.args.after.now _ _ r.ensures r.auto.out _ c.in_ok-size.was _ (card_line _ _ c.from-card.ensures)
+    _ (sym c.in_err-refusal.was ∙ c.refusal.ensures)
+
+pub returns : goal.returns
+unfolding count_of content_rows
+returns c =
+    let r = c.read_numbers in
+    read_after c.args.edition card c.args.after.now _ _ r.ensures r.auto.out _ c.in_ok-size.was _ (card_line _ _ c.from-card.ensures)
+    (sym c.in_ok-refusal.was ∙ c.refusal.ensures)
