@@ -1,6 +1,7 @@
 // The writer of one line (document 01, "Archive text"), in its edition.
-ghost use Rattle.std.specs.Prelude.{◌≡◌, ◌||◌, map, ◌≤◌, length};
+ghost use Rattle.std.specs.Prelude.{◌≡◌, false, ◌||◌, map, ◌≤◌, length};
 ghost use Rattle.quantity.specs.Refusals.{first_of};
+ghost use Rattle.meter.specs.Edition.{is_other_edition};
 ghost use Rattle.lines.specs.Number.{decimal, some_long, some_nonzero};
 ghost use Rattle.lines.specs.Line.{after_commas, text_of, bytes_of, content_rows};
 ghost use Rattle.lines.specs.Inside.Parts.{most_numbers, put_front};
@@ -9,6 +10,7 @@ ghost use Rattle.lines.specs.Writing.{text_rows, write_rows, written_of, buffer_
 use crate::line::{EditionLine, Line};
 use crate::listed::{Listed, fields_length, first_field, has_from, numbers_of};
 use crate::number::{LEAST_LONG, put_field};
+use crate::opening::put_opening;
 use meter::is_other_edition;
 use quantity::{Refusal, first_refusal};
 
@@ -76,9 +78,12 @@ fn has_refused_number(listed: &Listed) -> bool
 
 // Puts a line for which there is room at the front of part, and answers how many bytes it takes.
 fn put_line(part: &mut [u8], what: EditionLine) -> usize
-    requires { length (bytes_of what) ≤ length part.old }
+    requires { (length (bytes_of what) ≤ length part.old) × (is_other_edition what.edition ≡ false) }
     ensures { (result ≡ length (bytes_of what)) × (part.new ≡ put_front part.old (bytes_of what)) }
 {
+    if let Line::Opening = what.line {
+        return put_opening(part, what.edition);
+    }
     let listed = numbers_of(what);
     put_text(part, first_field(what.line), listed.shown())
 }
