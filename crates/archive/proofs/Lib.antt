@@ -7,8 +7,6 @@ pub mod Acceptance
 pub mod Readings
 pub mod Refusing
 pub mod Numbers
-pub mod Loop
-pub mod Nothing
-pub mod Turning
+pub mod Going
 pub mod Starting
 pub mod Inputs

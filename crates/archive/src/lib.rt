@@ -4,7 +4,9 @@
 mod answer;
 mod auditing;
 mod printing;
+mod samples;
 
 pub use answer::Audited;
 pub use auditing::audit;
 pub use printing::{AUDIT_LIMIT, report};
+pub use samples::SampleLines;

@@ -11,7 +11,8 @@ use lines::{OutputLine, Report};
 pub const AUDIT_LIMIT: usize = 65536;
 
 // The output line of the audit of an input that stands in the first used bytes of the space: 68, as line 0, exactly when it has more bytes
-// than limit or fills the space.
+// than limit or fills the space. It takes the space and the length apart, and no slice of the input alone: an input that fills its space may go
+// on beyond it, which the slice no longer tells.
 pub fn report(space: &[u8], used: usize, limit: usize) -> OutputLine
     ensures answer { result ≡ output_of (report_text (report_in limit space.now used)) }
     ensures within { result.length ≤ longest_output }
