@@ -7,5 +7,4 @@ pub mod Back
 pub mod Staying
 mod Agreement
 mod Passing
-mod Stages
 mod Buffers
