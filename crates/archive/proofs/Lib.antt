@@ -8,5 +8,6 @@ pub mod Readings
 pub mod Refusing
 pub mod Numbers
 pub mod Going
+pub mod Heads
 pub mod Starting
 pub mod Inputs

@@ -1,8 +1,9 @@
--- What the contracts of this crate, and of those above it, cite; the statements of its theorems; and, apart, what only its inside cites.
+-- What the contracts of this crate, and of those above it, cite; the statements of its theorems.
 pub mod File
+pub mod Places
 pub mod Samples
+pub mod Head
 pub mod Audit
 pub mod Archive
 pub mod Report
 pub mod Theorems
-pub mod Inside

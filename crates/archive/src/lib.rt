@@ -1,12 +1,13 @@
 // The audit of a whole archive (document 01, "Archive text" and the row "Line and audit").
 #![tactic(auto)]
 
-mod answer;
 mod auditing;
+mod head;
+mod places;
 mod printing;
 mod samples;
 
-pub use answer::Audited;
 pub use auditing::audit;
+pub use head::Head;
 pub use printing::{AUDIT_LIMIT, report};
 pub use samples::SampleLines;

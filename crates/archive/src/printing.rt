@@ -3,9 +3,10 @@ ghost use Rattle.std.specs.Prelude.{◌≡◌, ◌≤◌};
 ghost use Rattle.lines.specs.Report.{report_text, longest_output, output_of};
 ghost use Rattle.archive.specs.Report.{of_audited, report_in};
 
-use crate::answer::Audited;
 use crate::auditing::audit;
-use lines::{OutputLine, Report};
+use lines::{OutputLine, RefusedAt, Report};
+use meter::Meter;
+use quantity::Refusal;
 
 // "68 input over 65536 bytes": the audit program's limit. It needs a space of one byte more, to tell.
 pub const AUDIT_LIMIT: usize = 65536;
@@ -26,25 +27,29 @@ fn found(space: &[u8], used: usize, limit: usize) -> Report
 {
     if limit < used || space.len() <= used {
         return Report::Refusal {
-            number: 68,
+            number: Refusal::InputSize.number(),
             line: 0,
         };
     }
     of_audited(audit(&space[..used]))
 }
 
+// No `From`: both types are of other crates.
 #[tactic(auto, unfolding(crate::specs::Report::of_audited))]
-fn of_audited(answer: Audited) -> Report
+fn of_audited(answer: Result<Meter, RefusedAt>) -> Report
     ensures { result ≡ of_audited answer }
 {
     match answer {
-        Audited::Accepted(m) => Report::EndState {
+        Ok(m) => Report::EndState {
             serial: m.card.serial,
             accepted: m.accepted,
             refused: m.refused,
             register: m.register,
             volume: m.volume,
         },
-        Audited::Refused { number, line } => Report::Refusal { number, line },
+        Err(RefusedAt { refusal, line }) => Report::Refusal {
+            number: refusal.number(),
+            line,
+        },
     }
 }

@@ -1,0 +1,13 @@
+// Refusals with the lines that they are on.
+ghost use Rattle.std.specs.Prelude.{◌≡◌};
+ghost use Rattle.archive.specs.Places.{on_line};
+
+use lines::RefusedAt;
+use quantity::Refusal;
+
+// An answer whose refusal is that of a line.
+pub(crate) fn on_line<T>(answer: Result<T, Refusal>, line: u64) -> Result<T, RefusedAt>
+    ensures { result ≡ on_line line answer }
+{
+    answer.map_err(|refusal| RefusedAt { refusal, line })
+}
