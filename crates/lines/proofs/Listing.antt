@@ -93,9 +93,6 @@ module _ (xs ns ys : List ℕ) (k i : ℕ) (p : Progress xs ns ys k i) (room : l
     pub next_place : k ≤ length ys
     next_place = omega (arith, fits, p.wrote.next, wrote_length xs p.text ys k p.wrote [] (omega (arith, fits)))
 
-    pub next_within : k + length (comma ∷ decimal (get_or ns i 0)) ≤ length xs
-    next_within = omega (arith, fits, p.wrote.next)
-
     pub next : (part : List ℕ) (r : ℕ) → r ≡ length (comma ∷ decimal (get_or ns i 0))
         → part ≡ put_front (take (length ys - k) (drop k ys)) (comma ∷ decimal (get_or ns i 0))
         → Progress xs ns (take k ys ++ (part ++ drop (length ys - k) (drop k ys))) (k + r) (i + 1)

@@ -1,6 +1,5 @@
 -- Each field has room, and all are the fields of the numbers.
-use Rattle.std.proofs.Common.{arith}
-use Rattle.lines.proofs.Listing.{next_room, next_within, next, all}
+use Rattle.lines.proofs.Listing.{next_room, next, all}
 use Rattle.lines.proofs.writing.put_fields.Goals as goal
 
 pub put_field-place-requires : goal.put_field-place-requires
@@ -8,12 +7,6 @@ put_field-place-requires c =
     let l = c.loop-number in
     let a = c.args in
     next_room a.part.now a.numbers.now l.part l.place l.number-index l.invariant c.requires c.loop-number-test.true
-
-pub overflow_add-place : goal.overflow_add-place
-overflow_add-place c =
-    let l = c.loop-number in
-    let a = c.args in
-    omega (arith, c.well_formed, c.put_field-place.ensures.0, next_within a.part.now a.numbers.now l.part l.place l.number-index l.invariant c.requires c.loop-number-test.true)
 
 pub loop-number-preserved : goal.loop-number-preserved
 loop-number-preserved c =
