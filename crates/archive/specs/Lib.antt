@@ -1,4 +1,4 @@
--- What the contracts of this crate, and of those above it, cite; the statements of its theorems.
+-- What the contracts of this crate, and of those above it, cite, and the statements of its theorems.
 pub mod File
 pub mod Places
 pub mod Samples

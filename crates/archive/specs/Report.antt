@@ -1,13 +1,13 @@
 -- What the audit program prints about its input, document 01, "Edges to try" and the row "Program": "68 input over 65536 bytes, before all else,
 -- shown as line 0".
-use Rattle.meter.specs.declared.state.Meter.{Meter}
 use Rattle.std.specs.Prelude.{ℕ, cond, ◌||◌, List, ltb, leb, length, take, Result, Ok, Err}
 use Rattle.quantity.specs.Refusals.{number_of}
 use Rattle.quantity.specs.declared.refusal.Refusal.TheVariants.{InputSize}
+use Rattle.meter.specs.declared.state.Meter.{Meter}
+use Rattle.lines.specs.declared.line.RefusedAt.{RefusedAt}
 use Rattle.lines.specs.declared.report.Report.{Report}
 use Rattle.lines.specs.declared.report.Report.TheVariants as R
 use Rattle.archive.specs.Audit.{audit_of}
-use Rattle.lines.specs.declared.line.RefusedAt.{RefusedAt}
 
 -- the audit program's limit; what follows is stated for any limit
 abbrev pub audit_limit : ℕ
