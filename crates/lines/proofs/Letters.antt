@@ -11,7 +11,8 @@ use Rattle.std.proofs.Common.{Result, Ok, Err}
 use Rattle.quantity.specs.Refusals.{first_of}
 use Rattle.quantity.specs.declared.refusal.Refusal.{Refusal}
 use Rattle.quantity.specs.declared.refusal.Refusal.TheVariants as R
-use Rattle.quantity.proofs.Rows.{parts, or_else}
+use Rattle.quantity.proofs.Rows.{parts}
+use Rattle.std.specs.Result.{result_and}
 use Rattle.lines.specs.Bytes.{line_feed, comma}
 use Rattle.lines.specs.Number.{value_of}
 use Rattle.lines.specs.Line.{LineKind, opening, card, sample, totals, first_field, in_edition, content_rows, count_of, card_of, line_of}
@@ -69,7 +70,7 @@ module _ (e : ℕ) (k : LineKind) (after : List ℕ) where
   abbrev said : Line
   said = line_of k (numbers_in after)
 
-  by_shape : after_letter e k after ≡ answer_of (in_edition e said) (size_of after + 1) (or_else shape (first_of (content_rows said)))
+  by_shape : after_letter e k after ≡ answer_of (in_edition e said) (size_of after + 1) (result_and shape (first_of (content_rows said)))
   unfolding after_letter
   by_shape = ap (answer_of (in_edition e said) (size_of after + 1)) (parts (shape_rows [] (count_of e k) after) (content_rows said))
 

@@ -12,7 +12,8 @@ use borrow.Author.Tests.{lt-ltb, le-ltb, ltb-false}
 use Rattle.quantity.specs.Refusals.{row, first_of}
 use Rattle.quantity.specs.declared.refusal.Refusal.{Refusal}
 use Rattle.quantity.specs.declared.refusal.Refusal.TheVariants as R
-use Rattle.quantity.proofs.Rows.{parts, or_else, none_applies, no_refusal, none_of_parts}
+use Rattle.quantity.proofs.Rows.{parts, none_applies, no_refusal, none_of_parts}
+use Rattle.std.specs.Result.{result_and}
 use Rattle.quantity.proofs.Conditions.{neither}
 use Rattle.meter.specs.Edition.{is_other_edition}
 use Rattle.lines.specs.Number.{some_long, some_nonzero}
@@ -28,7 +29,7 @@ module _ (size at : ℕ) (line : EditionLine) where
 
   -- after those two rows
   module _ (h : at ≤ size) (o : is_other_edition line.edition ≡ false) where
-    by_content : first_of (write_rows size at line) ≡ or_else (first_of (content_rows line.line)) (first_of (text_rows (size - at) line))
+    by_content : first_of (write_rows size at line) ≡ result_and (first_of (content_rows line.line)) (first_of (text_rows (size - at) line))
     unfolding write_rows first_of
     by_content = simp (le-ltb size at h, o) (parts (content_rows line.line) (text_rows (size - at) line))
 
@@ -39,11 +40,11 @@ module _ (size at : ℕ) (line : EditionLine) where
   abbrev pub before_content : Result Unit Refusal
   before_content = first_of (row R.PlaceBeyond (ltb size at) ∷ row R.Edition (is_other_edition line.edition) ∷ [])
 
-  in_stages : first_of (write_rows size at line) ≡ or_else before_content (or_else (first_of (content_rows line.line)) (first_of (text_rows (size - at) line)))
+  in_stages : first_of (write_rows size at line) ≡ result_and before_content (result_and (first_of (content_rows line.line)) (first_of (text_rows (size - at) line)))
   unfolding write_rows
   in_stages =
       parts (row R.PlaceBeyond (ltb size at) ∷ row R.Edition (is_other_edition line.edition) ∷ []) (content_rows line.line ++ text_rows (size - at) line)
-      ∙ ap (or_else before_content) (parts (content_rows line.line) (text_rows (size - at) line))
+      ∙ ap (result_and before_content) (parts (content_rows line.line) (text_rows (size - at) line))
 
   pub first_stage : (r : Refusal) → before_content ≡ Err r → Err r ≡ first_of (write_rows size at line)
   first_stage r e = sym (in_stages ∙ rw e)

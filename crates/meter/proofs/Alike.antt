@@ -6,14 +6,14 @@ use mathlib.Core.List.{List, [], ◌∷◌, ◌++◌, append_assoc}
 use mathlib.Core.Bool.{false}
 use Prim.Native.Nat.{ℕ, ◌+◌, ◌≤◌}
 use native.Mathlib.Nat.{add-zero}
-use native.Mathlib.Omega.{arith}
 use borrow.Author.Tests.{le-ltb}
 use Rattle.quantity.specs.Units.{is_colder}
 use Rattle.quantity.specs.Refusals.{outside, first_of}
 use Rattle.std.specs.Prelude.{Result, Ok, Err}
 use Rattle.quantity.specs.declared.refusal.Refusal.{Refusal}
 use Rattle.quantity.specs.declared.refusal.Row.{Row}
-use Rattle.quantity.proofs.Rows.{or_else, parts}
+use Rattle.quantity.proofs.Rows.{parts}
+use Rattle.std.specs.Result.{result_and}
 use Rattle.meter.specs.Edition.{is_other_edition}
 use Rattle.meter.specs.Card.{card_rows}
 use Rattle.meter.specs.State.{zeros, largest_register, state_rows}
@@ -51,8 +51,8 @@ module _ (f : Meter → Meter) (m : Meter) (s : Sample) (h : Alike f m s) where
       by_sample_lem : (o p : Result Unit Refusal) → is_accepted (by_sample m s o).outcome ≡ is_accepted (by_sample (f m) s p).outcome →
           (by_sample (f m) s p).meter ≡ f (by_sample m s o).meter
       by_sample_lem (Ok u) (Ok v) e = h.when_accepted
-      by_sample_lem (Ok u) (Err n) e = let z : ◌≡◌ {A = ℕ} 0 1 = cc in absurd (omega arith)
-      by_sample_lem (Err n) (Ok u) e = let z : ◌≡◌ {A = ℕ} 0 1 = cc in absurd (omega arith)
+      by_sample_lem (Ok u) (Err n) e = absurd cc
+      by_sample_lem (Err n) (Ok u) e = absurd cc
       by_sample_lem (Err n) (Err k) e = h.when_refused
 
       by : (o : Result Unit Refusal) → is_accepted (by_card_and_state m s o).outcome ≡ is_accepted (by_card_and_state (f m) s o).outcome →
@@ -75,10 +75,10 @@ module _ (f : Meter → Meter) (m : Meter) (s : Sample) (h : Alike f m s) where
 
 -- the rows of card and state lead to the same where those of the state do
 same_before : (c : Card) (rs ss : List Row) → first_of rs ≡ first_of ss → first_of (card_rows c ++ rs) ≡ first_of (card_rows c ++ ss)
-same_before c rs ss e = parts (card_rows c) rs ∙ ap (or_else (first_of (card_rows c))) e ∙ sym (parts (card_rows c) ss)
+same_before c rs ss e = parts (card_rows c) rs ∙ ap (result_and (first_of (card_rows c))) e ∙ sym (parts (card_rows c) ss)
 
 -- rows in parts of which the last is the fourth
-last_part : (ps qs rs ss : List Row) → first_of (ps ++ (qs ++ (rs ++ ss))) ≡ or_else (first_of (ps ++ (qs ++ rs))) (first_of ss)
+last_part : (ps qs rs ss : List Row) → first_of (ps ++ (qs ++ (rs ++ ss))) ≡ result_and (first_of (ps ++ (qs ++ rs))) (first_of ss)
 last_part ps qs rs ss =
     ap (λ (l : List Row). first_of (ps ++ l)) (sym (append_assoc qs rs ss)) ∙ ap first_of (sym (append_assoc ps (qs ++ rs) ss)) ∙ parts (ps ++ (qs ++ rs)) ss
 
@@ -87,7 +87,7 @@ same_sample : (e f : ℕ) (c : Card) (s : Sample) (ls ks : List Row) → TakenAl
     first_of (count_rows c s ++ (reading_rows c s ++ (range_rows f c s ++ ls))) ≡ first_of (count_rows c s ++ (reading_rows c s ++ (range_rows e c s ++ ks)))
 same_sample e f c s ls ks w l =
     last_part (count_rows c s) (reading_rows c s) (range_rows f c s) ls
-    ∙ ap₂ or_else (sym w) (ap first_of l)
+    ∙ ap₂ result_and (sym w) (ap first_of l)
     ∙ sym (last_part (count_rows c s) (reading_rows c s) (range_rows e c s) ks)
 
 -- the rows of the limits, where the sample's own register has the same in it
@@ -173,7 +173,7 @@ both_within f m s g w =
 -- and where the card is refused, which leaves a meter as it is
 by_card_lem : (m : Meter) (s : Sample) (n : Refusal) → first_of (card_rows m.card) ≡ Err n → step_of m s ≡ record { meter = m; outcome = Err n }
 unfolding step_of
-by_card_lem m s n e = ap (by_card_and_state m s) (parts (card_rows m.card) (state_rows m) ∙ ap (λ (o : Result Unit Refusal). or_else o (first_of (state_rows m))) e)
+by_card_lem m s n e = ap (by_card_and_state m s) (parts (card_rows m.card) (state_rows m) ∙ ap (λ (o : Result Unit Refusal). result_and o (first_of (state_rows m))) e)
 
 card_refused : (f : ℕ) (n : Refusal) → StepsAlike f (λ (m : Meter). first_of (card_rows m.card) ≡ Err n)
 card_refused f n m s e w =

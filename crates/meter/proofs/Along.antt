@@ -13,7 +13,8 @@ use Rattle.quantity.specs.Range.{end_refusal}
 use Rattle.std.specs.Prelude.{Result, Ok, Err}
 use Rattle.quantity.specs.declared.refusal.Refusal.{Refusal}
 use Rattle.quantity.specs.declared.refusal.Refusal.TheVariants.{CountsFull}
-use Rattle.quantity.proofs.Rows.{none_applies, none_of_parts, or_else, parts, of_some_row}
+use Rattle.std.specs.Result.{result_and}
+use Rattle.quantity.proofs.Rows.{none_applies, none_of_parts, parts, of_some_row}
 use Rattle.meter.specs.Card.{card_rows}
 use Rattle.meter.specs.State.{fresh_of, state_rows, largest_register, largest_volume, largest_count}
 use Rattle.meter.specs.Step.{card_and_state_rows, count_rows, reading_rows, range_rows, limit_rows, sample_rows, step_of}
@@ -118,14 +119,14 @@ by_state m g =
 
 is_21 : (b : Bool) (r : Refusal) → ◌≡◌ {A = Result Unit Refusal} (cond b (Err CountsFull) (Ok tt)) (Err r) → (r ≡ CountsFull) × (b ≡ true)
 is_21 true r e = (cc, refl)
-is_21 false r e = let z : ◌≡◌ {A = ℕ} 0 1 = cc in absurd (omega arith)
+is_21 false r e = absurd cc
 
 -- and then the counts together are at their limit
 pub full : (m : Meter) (r : Refusal) → WithinLimits m → first_of (card_and_state_rows m) ≡ Err r → (r ≡ CountsFull) × (eqb (m.accepted + m.refused) largest_count ≡ true)
 full m r g e =
     is_21 (eqb (m.accepted + m.refused) largest_count) r
     (sym (by_state m g)
-    ∙ sym (ap (λ (o : Result Unit Refusal). or_else o (first_of (state_rows m))) g.card)
+    ∙ sym (ap (λ (o : Result Unit Refusal). result_and o (first_of (state_rows m))) g.card)
     ∙ sym (parts (card_rows m.card) (state_rows m))
     ∙ e)
 
@@ -147,7 +148,7 @@ number_21 r e = rw e refl
 
 -- So after any calls from a fresh meter the step refuses with 21 or with a number of the sample's rows.
 by_answer : (m : Meter) (s : Sample) (a : Stepped) (r : Refusal) → Answers m s a → WithinLimits m → a.outcome ≡ Err r → (r ≡ CountsFull) ⊎ (30 ≤ number_of r)
-by_answer m s a n (accepts h) g e = let z : ◌≡◌ {A = ℕ} 0 1 = cc in absurd (omega arith)
+by_answer m s a n (accepts h) g e = absurd cc
 by_answer m s a n (refuses_sample k f h) g e =
     let same : k ≡ n = cc in
     inr (subst (λ (x : Refusal). 30 ≤ number_of x) same (sample_number m s k h))

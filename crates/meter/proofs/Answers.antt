@@ -2,8 +2,6 @@
 -- Assumes nothing.
 use mathlib.Core.Path.{◌≡◌, refl, sym, ap, subst}
 use mathlib.Core.Bool.{true}
-use Prim.Native.Nat.{ℕ}
-use native.Mathlib.Omega.{arith}
 use Rattle.quantity.specs.Refusals.{first_of, NoneApplies}
 use Rattle.std.specs.Prelude.{Result, Ok, Err}
 use Rattle.quantity.specs.declared.refusal.Refusal.{Refusal}
@@ -44,8 +42,8 @@ answered m s a p = subst (λ (x : Stepped). Answers m s x) (sym p) (step_answers
 -- a sample is accepted exactly when no row refuses it
 when_accepted : (m : Meter) (s : Sample) (a : Stepped) → Answers m s a → is_accepted a.outcome ≡ true → NoRowRefuses m s
 when_accepted m s a (accepts h) e = h
-when_accepted m s a (refuses_sample n f g) e = let z : ◌≡◌ {A = ℕ} 0 1 = cc in absurd (omega arith)
-when_accepted m s a (refuses_before n f) e = let z : ◌≡◌ {A = ℕ} 0 1 = cc in absurd (omega arith)
+when_accepted m s a (refuses_sample n f g) e = absurd cc
+when_accepted m s a (refuses_before n f) e = absurd cc
 
 pub not_refused : (m : Meter) (s : Sample) → NoRowRefuses m s → step_of m s ≡ record { meter = accepting m s; outcome = Ok tt }
 unfolding step_of

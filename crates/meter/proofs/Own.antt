@@ -5,7 +5,6 @@ use mathlib.Core.Logic.{◌↔◌}
 use mathlib.Core.List.{List, [], ◌∷◌}
 use mathlib.Core.Bool.{Bool, true, false, ◌&&◌}
 use Prim.Native.Nat.{ℕ}
-use native.Mathlib.Omega.{arith}
 use Rattle.quantity.specs.declared.fraction.Fraction.{Fraction}
 use Rattle.meter.specs.Register.{own_register, is_same}
 use Rattle.meter.specs.Sum.{Mark, is_own, nothing, sum_from, allowance_from}
@@ -22,8 +21,8 @@ same_exactly r q = (are r q, λ e. subst (λ (x : Register). is_same r x ≡ tru
     are : (r q : Register) → is_same r q ≡ true → r ≡ q
     are Heat Heat e = refl
     are Cold Cold e = refl
-    are Heat Cold e = let z : ◌≡◌ {A = ℕ} 0 1 = cc in absurd (omega arith)
-    are Cold Heat e = let z : ◌≡◌ {A = ℕ} 0 1 = cc in absurd (omega arith)
+    are Heat Cold e = absurd cc
+    are Cold Heat e = absurd cc
 
 -- every accepted sample is exactly one register's own
 pub own_exactly : OwnExactly

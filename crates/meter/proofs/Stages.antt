@@ -4,7 +4,8 @@ use mathlib.Core.Path.{◌≡◌, ◌∙◌, ap, sym}
 use mathlib.Core.List.{◌++◌, append_assoc}
 use Rattle.std.specs.Prelude.{Ok}
 use Rattle.quantity.specs.Refusals.{first_of}
-use Rattle.quantity.proofs.Rows.{none_applies, none_of_parts, or_else, parts}
+use Rattle.std.specs.Result.{result_and}
+use Rattle.quantity.proofs.Rows.{none_applies, none_of_parts, parts}
 use Rattle.meter.specs.Card.{card_rows}
 use Rattle.meter.specs.State.{state_rows}
 use Rattle.quantity.specs.declared.range.Position.TheVariants.{Supply, Return}
@@ -31,17 +32,17 @@ limits_pass m s e = accepted_limits m s (none_applies (limit_rows m s) e)
 
 -- the rows of a sample's counts and readings, stage by stage
 pub counts_and_readings : (c : Card) (s : Sample) →
-    first_of (count_rows c s ++ reading_rows c s) ≡ or_else (first_of (count_rows c s)) (or_else (first_of (end_rows Supply (supply_of c s))) (first_of (end_rows Return (return_of c s))))
+    first_of (count_rows c s ++ reading_rows c s) ≡ result_and (first_of (count_rows c s)) (result_and (first_of (end_rows Supply (supply_of c s))) (first_of (end_rows Return (return_of c s))))
 unfolding reading_rows
 counts_and_readings c s =
     let supply = end_rows Supply (supply_of c s) in
     let returned = end_rows Return (return_of c s) in
-    parts (count_rows c s) (supply ++ returned) ∙ ap (or_else (first_of (count_rows c s))) (parts supply returned)
+    parts (count_rows c s) (supply ++ returned) ∙ ap (result_and (first_of (count_rows c s))) (parts supply returned)
 
 -- and all rows of a sample
 pub by_stages : (m : Meter) (s : Sample) →
-    first_of (sample_rows m s) ≡ or_else (first_of (count_rows m.card s ++ reading_rows m.card s)) (or_else (first_of (range_rows m.edition m.card s)) (first_of (limit_rows m s)))
+    first_of (sample_rows m s) ≡ result_and (first_of (count_rows m.card s ++ reading_rows m.card s)) (result_and (first_of (range_rows m.edition m.card s)) (first_of (limit_rows m s)))
 by_stages m s =
     ap first_of (sym (append_assoc (count_rows m.card s) (reading_rows m.card s) (range_rows m.edition m.card s ++ limit_rows m s)))
     ∙ parts (count_rows m.card s ++ reading_rows m.card s) (range_rows m.edition m.card s ++ limit_rows m s)
-    ∙ ap (or_else (first_of (count_rows m.card s ++ reading_rows m.card s))) (parts (range_rows m.edition m.card s) (limit_rows m s))
+    ∙ ap (result_and (first_of (count_rows m.card s ++ reading_rows m.card s))) (parts (range_rows m.edition m.card s) (limit_rows m s))

@@ -130,7 +130,7 @@ edition_along m ks z calls = (stays_along calls).edition
 -- only the outcome of no refusal makes a meter
 by_rows : (x m : Meter) (o : Result Unit Refusal) → fresh_answer o x ≡ Ok m → (o ≡ Ok tt) × (x ≡ m)
 by_rows x m (Ok u) e = (refl, cc)
-by_rows x m (Err n) e = let z : ◌≡◌ {A = ℕ} 0 1 = cc in absurd (omega arith)
+by_rows x m (Err n) e = absurd cc
 
 -- a fresh meter is that of an accepted card and an edition, with zeros
 pub fresh_zeros : FreshZeros

@@ -23,5 +23,6 @@ pub record NoRowRefuses (m : Meter) (s : Sample) : Type 0 where
 -- the meter unchanged.
 pub data Answers (m : Meter) (s : Sample) : Stepped → Type 0 where
   accepts : NoRowRefuses m s → Answers m s (record { meter = accepting m s; outcome = Ok tt })
-  refuses_sample : (r : Refusal) → first_of (card_and_state_rows m) ≡ Ok tt → first_of (sample_rows m s) ≡ Err r → Answers m s (record { meter = refusing m; outcome = Err r })
+  refuses_sample : (r : Refusal) → first_of (card_and_state_rows m) ≡ Ok tt → first_of (sample_rows m s) ≡ Err r →
+      Answers m s (record { meter = refusing m; outcome = Err r })
   refuses_before : (r : Refusal) → first_of (card_and_state_rows m) ≡ Err r → Answers m s (record { meter = m; outcome = Err r })

@@ -10,8 +10,8 @@ use quantity::{LARGEST_KELVINS, LAST_DEGREE, Refusal, first_refusal, is_outside}
 // How many fields a card has.
 pub const CARD_FIELDS: usize = 12;
 
-// What is fixed about a meter when it is built in, in document 01's order. Any content can stand here, the place and the sensor too: enums
-// for these two would ask more of callers, and rows 11 and 12 are what refuses other numbers.
+// What is fixed about a meter when it is built in, in document 01's order. Any content can stand here, in the place and the
+// sensor too: a rule of the project, by which what crosses a crate's border is total, and rows 11 and 12 are what refuses other numbers.
 #[derive(Clone, Copy, Debug, PartialEq, Eq)]
 pub struct Card {
     pub serial: u64,

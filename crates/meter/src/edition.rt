@@ -15,7 +15,8 @@ pub fn is_other_edition(edition: u64) -> bool
     is_outside(edition, 1, LAST_EDITION)
 }
 
-// Whether an edition's meters keep the seconds of accepted samples above q_s.
+// Whether an edition's meters keep the seconds of accepted samples above q_s. This and the next are one comparison each: a const parameter for the
+// edition from which on they hold is no plainer.
 pub fn keeps_seconds(edition: u64) -> bool
     ensures { result ≡ keeps_seconds edition }
 {

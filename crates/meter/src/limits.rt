@@ -12,6 +12,7 @@ use crate::register::Register;
 use crate::state::{LARGEST_REGISTER, LARGEST_VOLUME, Meter};
 use quantity::{Refusal, first_refusal};
 
+// That the heat is the sample's stands in the contracts of these two and of `heat`: a struct for the one number would be no plainer.
 impl Measurement {
     // Rows 40 and 41. A sum that is capped where it passes 64 bits passes its limit as well.
     #[tactic(auto, unfolding(crate::specs::Step::limit_rows))]

@@ -67,7 +67,8 @@ AnswerSaysEnd =
 -- and so do the two rows that stand for this answer among the rows of a sample
 abbrev pub RowsSayEnd : Type 0
 RowsSayEnd =
-    (p : Position) (field r : ℕ) (s : Sensor) → sensor_of field ≡ Ok s → SaysEnd p (resistance_of s) r (first_of (end_rows p (temperature_of field r)))
+    (p : Position) (field r : ℕ) (s : Sensor) → sensor_of field ≡ Ok s →
+    SaysEnd p (resistance_of s) r (first_of (end_rows p (temperature_of field r)))
 
 -- the curve lies above the straight line by 5775×t×(18000−t), which is nothing at both ends: the line goes through them
 abbrev pub CurveAboveLine : Type 0

@@ -7,7 +7,7 @@ use Rattle.std.proofs.lemmas.List.{at_drop_more, at_drop_all}
 use mathlib.Core.Bool.{Bool, true, false, cond}
 use Prim.Native.Nat.{ℕ, ◌+◌, ◌<◌, ◌≤◌}
 use Rattle.std.specs.Prelude.{Result, Ok, Err}
-use native.Mathlib.Omega.{arith}
+use Rattle.std.specs.Result.{result_and}
 use Rattle.quantity.specs.Refusals.{row, first_of, NoneApplies, or_row}
 use Rattle.quantity.specs.Theorems.{after, Accumulated, NoRefusalExactly}
 use Rattle.quantity.specs.declared.refusal.Refusal.{Refusal}
@@ -31,7 +31,7 @@ accumulated (r ∷ rs) = one_more_lem r.condition r.refusal rs (accumulated rs)
 
 -- what no refusal says of the first row and of the others
 passes : (b : Bool) (n : Refusal) (o : Result Unit Refusal) → cond b (Err n) o ≡ Ok tt → (b ≡ false) × (o ≡ Ok tt)
-passes true n o e = let z : ◌≡◌ {A = ℕ} 0 1 = cc in absurd (omega arith)
+passes true n o e = absurd cc
 passes false n o e = (refl, e)
 
 pub none_applies : (rs : List Row) → first_of rs ≡ Ok tt → NoneApplies rs
@@ -50,17 +50,13 @@ pub no_refusal_exactly : NoRefusalExactly
 no_refusal_exactly rs = (none_applies rs, no_refusal rs)
 
 -- rows in two parts: the first part decides, or else the second
-abbrev pub or_else : Result Unit Refusal → Result Unit Refusal → Result Unit Refusal
-or_else (Err n) o = Err n
-or_else (Ok u) o = o
-
-pub parts : (rs ss : List Row) → first_of (rs ++ ss) ≡ or_else (first_of rs) (first_of ss)
+pub parts : (rs ss : List Row) → first_of (rs ++ ss) ≡ result_and (first_of rs) (first_of ss)
 unfolding first_of
 parts [] ss = refl
 parts (r ∷ rs) ss = go r.condition (parts rs ss)
   where
-    go : (b : Bool) → first_of (rs ++ ss) ≡ or_else (first_of rs) (first_of ss) →
-        cond b (Err r.refusal) (first_of (rs ++ ss)) ≡ or_else (cond b (Err r.refusal) (first_of rs)) (first_of ss)
+    go : (b : Bool) → first_of (rs ++ ss) ≡ result_and (first_of rs) (first_of ss) →
+        cond b (Err r.refusal) (first_of (rs ++ ss)) ≡ result_and (cond b (Err r.refusal) (first_of rs)) (first_of ss)
     go true h = refl
     go false h = h
 
@@ -74,10 +70,10 @@ pub none_together : (rs ss : List Row) → NoneApplies rs → NoneApplies ss →
 none_together [] ss h g = g
 none_together (r ∷ rs) ss h g = (h.0, none_together rs ss h.1 g)
 
--- a refusal's number is that of some row: what holds of each row's number holds of it
-abbrev pub EachNumber : (Refusal → Type 0) → List Row → Type 0
-EachNumber P [] = Unit {0}
-EachNumber P (r ∷ rs) = P r.refusal × EachNumber P rs
+-- a refusal is that of some row: what holds of each row's refusal holds of it
+abbrev pub EachRefusal : (Refusal → Type 0) → List Row → Type 0
+EachRefusal P [] = Unit {0}
+EachRefusal P (r ∷ rs) = P r.refusal × EachRefusal P rs
 
 one_of : (P : Refusal → Type 0) (b : Bool) (k n : Refusal) (o : Result Unit Refusal) → P k → (o ≡ Err n → P n) → cond b (Err k) o ≡ Err n → P n
 one_of P true k n o p f e =
@@ -85,18 +81,20 @@ one_of P true k n o p f e =
     subst P same p
 one_of P false k n o p f e = f e
 
-pub of_some_row : (P : Refusal → Type 0) (rs : List Row) (n : Refusal) → EachNumber P rs → first_of rs ≡ Err n → P n
+pub of_some_row : (P : Refusal → Type 0) (rs : List Row) (n : Refusal) → EachRefusal P rs → first_of rs ≡ Err n → P n
 unfolding first_of
-of_some_row P [] n h e = let z : ◌≡◌ {A = ℕ} 0 1 = cc in absurd (omega arith)
+of_some_row P [] n h e = absurd cc
 of_some_row P (r ∷ rs) n h e = one_of P r.condition r.refusal n (first_of rs) h.0 (of_some_row P rs n h.1) e
 
 -- the rows from one on, as code goes through them: one that applies decides; one that does not leaves it to those behind it; behind the last
 -- there is no refusal
-pub row_applies : (rs : List Row) (i : ℕ) (d : Row) → i < length rs → (get_or rs i d).condition ≡ true → Err (get_or rs i d).refusal ≡ first_of (drop i rs)
+pub row_applies : (rs : List Row) (i : ℕ) (d : Row) → i < length rs → (get_or rs i d).condition ≡ true →
+    Err (get_or rs i d).refusal ≡ first_of (drop i rs)
 unfolding first_of
 row_applies rs i d h e = rw (at_drop_more first_of rs i d h) (rw e refl)
 
-pub row_passes : (rs : List Row) (i : ℕ) (d : Row) → i < length rs → (get_or rs i d).condition ≡ false → first_of (drop (i + 1) rs) ≡ first_of (drop i rs)
+pub row_passes : (rs : List Row) (i : ℕ) (d : Row) → i < length rs → (get_or rs i d).condition ≡ false →
+    first_of (drop (i + 1) rs) ≡ first_of (drop i rs)
 unfolding first_of
 row_passes rs i d h e = rw (at_drop_more first_of rs i d h) (rw e refl)
 

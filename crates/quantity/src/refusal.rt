@@ -2,6 +2,7 @@
 ghost use Rattle.std.specs.Prelude.{◌≡◌};
 ghost use Rattle.quantity.specs.Refusals.{first_of, number_of, outside, row};
 
+use std::error::Error;
 use std::fmt;
 
 // A refusal, with the number that the papers give it.
@@ -50,6 +51,7 @@ pub enum Refusal {
 }
 
 impl Refusal {
+    // A method, and no `From`: at each place it says that it is the number that is meant.
     #[tactic(auto, unfolding(crate::specs::Refusals::number_of))]
     pub fn number(self) -> u64
         ensures { result ≡ number_of self }
@@ -70,10 +72,17 @@ impl Refusal {
 
 // A refusal is printed as its number.
 impl fmt::Display for Refusal {
+    ghost use Rattle.std.specs.Prelude.{Some};
+    ghost use Rattle.std.specs.Fmt.{decimal};
+
+    ghost output = { λ r. Some (decimal (number_of r)) };
+
     fn fmt<W: fmt::Write>(&self, f: &mut fmt::Formatter<W>) -> fmt::Result {
         self.number().fmt(f)
     }
 }
+
+impl Error for Refusal {}
 
 // A row of the table: a refusal, and the condition under which it is given.
 #[derive(Clone, Copy, Debug, PartialEq, Eq)]
@@ -95,7 +104,8 @@ pub fn first_refusal(rows: &[Row]) -> Result<(), Refusal>
     Ok(())
 }
 
-// Whether x lies outside low..high, a condition of many rows.
+// Whether x lies outside low..high, a condition of many rows. Of temperatures and differences `Unit::is_outside` says the same; that a number is a unit
+// of itself, so that one would do for both, would be no plainer.
 #[tactic(auto, unfolding(crate::specs::Refusals::outside))]
 pub fn is_outside(x: u64, low: u64, high: u64) -> bool
     ensures { result ≡ outside x low high }

@@ -12,7 +12,7 @@ pub const LAST_DEGREE: u64 = 180;
 
 pub const LARGEST_KELVINS: u64 = 180;
 
-// A unit in which hundredths are counted: its values are ordered by them.
+// A unit in which hundredths are counted.
 pub trait Unit: Copy + PartialOrd + Sized {
     ghost hundredths: { Self → ℕ };
 
@@ -21,7 +21,7 @@ pub trait Unit: Copy + PartialOrd + Sized {
     fn of_hundredths(count: u64) -> Self
         ensures { hundredths result ≡ count };
 
-    // So many whole ones. Every count of 32 bits has a value, so nothing is refused.
+    // A number of whole degrees, or of whole kelvins. Every count of 32 bits has a value, so nothing is refused.
     fn whole(count: u32) -> Self
         ensures { hundredths result ≡ count * 100 }
     {

@@ -10,7 +10,8 @@ use Rattle.quantity.specs.Divisors.{reduced}
 use Rattle.quantity.specs.Fractions.{◌over◌, times, Represents}
 use Rattle.quantity.specs.Refusals.{row, first_of}
 use Rattle.quantity.proofs.Fractions.{doubled, above_zero_too}
-use Rattle.quantity.proofs.Rows.{or_else, parts}
+use Rattle.std.specs.Result.{result_and}
+use Rattle.quantity.proofs.Rows.{parts}
 use Rattle.quantity.proofs.LowestTerms.{reduced_represents, reduced_exactly, same_reduced, whole_reduced}
 use Rattle.quantity.specs.declared.fraction.Fraction.{Fraction}
 use Rattle.quantity.specs.declared.refusal.Refusal.{Refusal}
@@ -78,7 +79,7 @@ printed p r a h = simp (a, same_reduced r (limit_at p) h.is_fraction (limit_is_f
 
 -- by the answer of the test point's rows, to which those of the values are added
 by_rows : (o : Result Unit Refusal) (p : TestPoint) (i x : ℕ) → (o ≡ Ok tt → Admitted p) →
-    compared_with (refused_or o (reduced (limit_at p))) i x ≡ refused_or (or_else o (first_of (value_rows i x))) (answer (passes (limit_at p) i x))
+    compared_with (refused_or o (reduced (limit_at p))) i x ≡ refused_or (result_and o (first_of (value_rows i x))) (answer (passes (limit_at p) i x))
 unfolding refused_or comparison_of
 by_rows (Err r) p i x a = refl
 by_rows (Ok u) p i x a =

@@ -1,4 +1,4 @@
-// A test point of the bench, and the refusals 50 to 54 of document 01's row "Verdict".
+// A test point of the bench, and the conditions of 53 and 54 of document 01's row "Verdict".
 ghost use Rattle.std.specs.Prelude.{◌≡◌};
 ghost use Rattle.verdict.specs.Rows.{difference_outside, flow_outside};
 

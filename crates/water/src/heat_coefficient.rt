@@ -9,8 +9,8 @@ use crate::interpolation::enthalpy_rise;
 use crate::pair::Pair;
 use quantity::{Refusal, Temperature, first_refusal};
 
-// The coefficient in J/(m³ K) of a supply and a return temperature, with the volume measured at the place. Any content is
-// answered.
+// The coefficient in J/(m³ K) of a supply and a return temperature, with the volume measured at the place. Any content is answered, a rule of the
+// project: so it takes the three apart, and `Pair` holds them once they are tested.
 pub fn coefficient(ts: Temperature, tr: Temperature, place: u64) -> Result<u64, Refusal>
     ensures { result ≡ coefficient_of water ts tr place }
 {
@@ -34,7 +34,8 @@ impl Pair {
     #[tactic(auto, unfolding(crate::specs::Coefficient::floored_coefficient))]
     fn floored_coefficient(self) -> u64
         requires { self.returned.temperature.0 < self.supply.temperature.0 }
-        ensures { result ≡ floored_coefficient water self.supply.temperature self.returned.temperature (at_place self.place self.supply.temperature self.returned.temperature) }
+        ensures { result ≡ floored_coefficient water self.supply.temperature self.returned.temperature
+            (at_place self.place self.supply.temperature self.returned.temperature) }
     {
         let rise = enthalpy_rise(self.supply, self.returned);
         let difference = self.supply.temperature.distance(self.returned.temperature);

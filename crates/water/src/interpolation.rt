@@ -21,7 +21,7 @@ pub(crate) struct WaterAt {
     ghost most_volume: { volume ≤ 113000000000 },
 }
 
-// The one operation that asks for a temperature of the table.
+// The water at a temperature. What stands behind it need not ask again whether the table has the temperature.
 pub(crate) fn water_at(temperature: Temperature) -> WaterAt
     requires { temperature.0 ≤ last_hundredth }
     ensures { result.temperature ≡ temperature }

@@ -9,7 +9,7 @@ use crate::pair::Pair;
 use quantity::{Refusal, Temperature, first_refusal};
 
 // The floored heat in mJ of u mL between a supply and a return temperature, or its cold where the supply is the colder, with the volume
-// measured at the place. Any content is answered.
+// measured at the place. Any content is answered, a rule of the project: so it takes the three apart.
 pub fn heat(u: u64, ts: Temperature, tr: Temperature, place: u64) -> Result<u64, Refusal>
     ensures { result ≡ heat_of water u ts tr place }
 {

@@ -1,4 +1,4 @@
--- What is known between the stages of the step's code, so that each stage is a small function. None of it is part of what the step means:
+-- What is known of a card, a state and counts that no row refuses, as the types of the step's code hold it. None of it is part of what the step means:
 -- its contract is `step_of` of specs/Step.antt, for all inputs.
 use Rattle.std.specs.Prelude.{◌≡◌, false, ◌+◌, ◌*◌, ◌^◌, ◌≤◌, ◌<◌}
 use Rattle.quantity.specs.Refusals.{outside}
@@ -27,7 +27,7 @@ pub record AcceptedCard (c : Card) : Type 0 where
   pub flows : (c.qi ≤ c.qp) × (c.qp ≤ c.qs)
   pub power : (1 ≤ c.ps) × (c.ps ≤ 10 ^ 9)
 
--- so a state
+-- and of a state
 pub record AcceptedState (m : Meter) : Type 0 where
   pub registers : (r : Register) → register_of r m ≤ largest_register
   pub volume : m.volume ≤ largest_volume

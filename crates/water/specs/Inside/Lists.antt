@@ -1,4 +1,4 @@
--- What it means that two lists are a table's entries: of the two constant arrays of src/tables.rt.
+-- What it means that two lists are a table's entries; `WaterRight` says it of the two constant arrays of src/tables.rt.
 use Rattle.std.specs.Prelude.{◌≡◌, List, ℕ, ◌≤◌, get_or}
 use Rattle.water.specs.Table.{Table, water}
 use Rattle.water.specs.declared.tables.TheConstants.{ENTHALPY, VOLUME}
