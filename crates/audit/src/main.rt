@@ -31,7 +31,8 @@ fn audit<R: Read, W: Write>(input: &mut R, out: &mut W) -> io::Result<()>
     Ok(())
 }
 
-// The line for what was read, the first used bytes of a space that is larger than the limit.
+// The line for what was read, the first used bytes of a space that is larger than the limit. `archive::report` takes both, since it tells by them
+// whether there may be more.
 #[tactic(auto, using(archive::proofs::Inputs::whole_input))]
 fn answer(space: &[u8], used: usize) -> OutputLine
     requires { (audit_limit < length space.now) × (used ≤ length space.now) }
