@@ -1,3 +1,4 @@
 -- What only functions inside this crate, and the proofs of them, cite. None of it is part of what a public operation means.
 pub mod Passes
 pub mod Rewriting
+pub mod Findings

@@ -1,10 +1,21 @@
-// What a converter answers (document 02, request 6).
+// What a converter answers where it gives no new file (document 02, request 6).
+use lines::RefusedAt;
+use quantity::Refusal;
 
-// The length of the new file, which stands at the start of the output buffer; or a refusal with its line, counted from 1; or the one that comes
-// without a line.
-#[derive(Clone, Copy)]
-pub enum Converted {
-    Length(usize),
-    RefusedAt { number: u64, line: u64 },
-    Refused(u64),
+// A refusal with its line, counted from 1; or the one that comes without a line.
+#[derive(Clone, Copy, Debug, PartialEq, Eq)]
+pub enum Unconverted {
+    At(RefusedAt),
+    Refused(Refusal),
+}
+
+impl From<RefusedAt> for Unconverted {
+    ghost use Rattle.std.specs.Prelude.{◌≡◌};
+    ghost use Rattle.conversion.specs.declared.answer.Unconverted.TheVariants.{At};
+
+    ghost from_gives = { λ refused r. r ≡ At refused };
+
+    fn from(refused: RefusedAt) -> Unconverted {
+        Unconverted::At(refused)
+    }
 }

@@ -3,9 +3,10 @@
 
 mod answer;
 mod converting;
+mod direction;
 mod examining;
 mod putting;
 mod running;
 
-pub use answer::Converted;
+pub use answer::Unconverted;
 pub use converting::{to_edition_2, to_edition_3};
