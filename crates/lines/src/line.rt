@@ -20,13 +20,21 @@ impl From<[u64; 6]> for Totals {
     ghost from_gives = { λ numbers t. t ≡ totals_from numbers };
 
     fn from(numbers: [u64; 6]) -> Totals {
+        let [
+            accepted,
+            refused,
+            register,
+            volume,
+            kept_seconds,
+            cold_register,
+        ] = numbers;
         Totals {
-            accepted: numbers[0],
-            refused: numbers[1],
-            register: numbers[2],
-            volume: numbers[3],
-            kept_seconds: numbers[4],
-            cold_register: numbers[5],
+            accepted,
+            refused,
+            register,
+            volume,
+            kept_seconds,
+            cold_register,
         }
     }
 }

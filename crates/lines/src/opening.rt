@@ -1,6 +1,6 @@
 // The opening, a fixed byte string but for the edition's digit: the reader compares it, and the writer writes it.
-ghost use Rattle.std.specs.Prelude.{◌≡◌, ◌≤◌, length, take};
-ghost use Rattle.meter.specs.Edition.{last_edition};
+ghost use Rattle.std.specs.Prelude.{◌≡◌, false, ◌≤◌, length, take};
+ghost use Rattle.meter.specs.Edition.{last_edition, is_other_edition};
 ghost use Rattle.lines.specs.Reading.{is_same, opened_up_to};
 ghost use Rattle.lines.specs.Line.{bytes_of, opening_in, opening_length};
 ghost use Rattle.lines.specs.Inside.Parts.{put_front};
@@ -42,10 +42,10 @@ fn is_opening(bytes: &[u8], edition: u64) -> bool
     bytes.starts_with(&opening_of(edition))
 }
 
-// Puts the edition's opening at the front of part, and answers how many bytes it takes.
-#[tactic(auto, using(crate::proofs::Openings::digit_length))]
+// Puts an edition's opening at the front of part, and answers how many bytes it takes.
+#[tactic(auto, using(crate::proofs::Openings::edition_most, crate::proofs::Openings::digit_length))]
 pub(crate) fn put_opening(part: &mut [u8], edition: u64) -> usize
-    requires { (opening_length ≤ length part.old) × (edition ≤ last_edition) }
+    requires { (length (bytes_of (opening_in edition)) ≤ length part.old) × (is_other_edition edition ≡ false) }
     ensures { (result ≡ length (bytes_of (opening_in edition))) × (part.new ≡ put_front part.old (bytes_of (opening_in edition))) }
 {
     part[..OPENING_LENGTH].copy_from_slice(&opening_of(edition));
