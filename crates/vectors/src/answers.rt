@@ -1,17 +1,21 @@
-// What stands behind a line: a letter or a word and, where there is one, a number.
-use quantity::Outcome;
+// What stands behind a line: the answer that its operation puts, or its refusal.
 use std::io;
 use std::io::Write;
 
-pub(crate) fn put(out: &mut impl Write, head: &[u8], value: u64) -> io::Result<()> {
-    out.write_all(head)?;
-    write!(out, "{value}")
+// Why an operation put no answer: it was refused, or its output failed.
+#[derive(Drop)]
+pub(crate) enum Unanswered {
+    Refused(u64),
+    Failed(io::Error),
 }
 
-// A refusal as X and its number; nothing where there is none.
-pub(crate) fn put_refusal(out: &mut impl Write, outcome: Outcome) -> io::Result<()> {
-    match outcome {
-        Outcome::Accepted => Ok(()),
-        Outcome::Refused(number) => put(out, b",X,", number),
+impl From<io::Error> for Unanswered {
+    fn from(error: io::Error) -> Unanswered {
+        Unanswered::Failed(error)
     }
+}
+
+// A refusal as X and its number.
+pub(crate) fn put_refusal(out: &mut impl Write, refusal: u64) -> io::Result<()> {
+    write!(out, ",X,{refusal}")
 }

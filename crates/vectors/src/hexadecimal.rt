@@ -1,47 +1,35 @@
 // Bytes in hexadecimal, read and written.
 ghost use Rattle.std.specs.Prelude.{◌≤◌, length};
 
-use crate::text::field_start;
+use crate::text::last_field;
 use std::io;
 use std::io::Write;
 
-// Puts the bytes behind the k-th comma of a line, its last field, at the front of buf, and answers how many they are.
-pub(crate) fn bytes_of(line: &[u8], k: usize, buf: &mut [u8]) -> usize
-    ensures { result ≤ length buf.new }
+// The most bytes that an operation takes.
+pub(crate) const MOST_BYTES: usize = 4096;
+
+// The bytes behind the k-th comma of a line, its last field, put at the front of buf: as many as it holds.
+pub(crate) fn bytes_of<'a>(line: &[u8], k: usize, buf: &'a mut [u8]) -> &'a [u8]
+    ensures { length result.now ≤ length buf.old }
 {
-    let mut n: usize = 0;
-    let mut i = field_start(line, k);
-    while i < line.len() {
-        if n == buf.len() {
-            return n;
-        }
-        if i + 1 == line.len() {
-            return n;
-        }
-        buf[n] = digit(line[i]) * 16 + digit(line[i + 1]);
-        n += 1;
-        i += 2;
+    let (pairs, _) = last_field(line, k).as_chunks::<2>();
+    let n = pairs.len().min(buf.len());
+    let bytes = &mut buf[..n];
+    for (byte, [high, low]) in bytes.iter_mut().zip(pairs) {
+        *byte = digit(*high) * 16 + digit(*low);
     }
-    n
+    bytes
 }
 
 // The value of a digit, small letters for ten to fifteen; 0 for any other byte.
 fn digit(byte: u8) -> u8
     ensures { result ≤ 15 }
 {
-    if byte < b'0' {
-        return 0;
+    match byte {
+        b'0'..=b'9' => byte - b'0',
+        b'a'..=b'f' => byte - b'a' + 10,
+        _ => 0,
     }
-    if byte <= b'9' {
-        return byte - b'0';
-    }
-    if byte < b'a' {
-        return 0;
-    }
-    if byte <= b'f' {
-        return byte - b'a' + 10;
-    }
-    0
 }
 
 // Writes bytes, two digits each.

@@ -6,7 +6,6 @@ mod answers;
 mod archives;
 mod conversions;
 mod hexadecimal;
-mod input;
 mod meters;
 mod readers;
 mod temperatures;
@@ -15,15 +14,19 @@ mod verdicts;
 mod waters;
 mod writers;
 
+use answers::{Unanswered, put_refusal};
 use std::io;
-use std::io::Write;
+use std::io::{Read, Write};
 
 // The most bytes of an input that are read.
 const MOST_INPUT: usize = 524288;
 
 fn main(rt: HostRuntime) -> io::Result<()> {
     let mut space = empty_space();
-    let size = input::read_full(&mut rt.reader(), &mut space)?;
+    let mut input = rt.reader().take(MOST_INPUT as u64);
+    let copied = io::copy(&mut input, &mut &mut space[..])? as usize;
+    // `take` let no more through, which the checker does not know of a reader of unknown bytes.
+    let size = copied.min(MOST_INPUT);
     run(&mut io::writer(&rt), &space[..size])
 }
 
@@ -33,40 +36,45 @@ fn empty_space() -> [u8; MOST_INPUT] {
 }
 
 fn run(out: &mut impl Write, input: &[u8]) -> io::Result<()> {
-    let mut at = 0;
-    while at < input.len() {
-        let end = text::line_end(input, at);
-        answer(out, &input[at..end])?;
-        at = end + 1;
+    for ended in input.split_inclusive(|byte| *byte == b'\n') {
+        let line = ended.strip_suffix(b"\n").unwrap_or(ended);
+        out.write_all(line)?;
+        put_answer(out, line)?;
+        out.write_all(b"\n")?;
     }
     Ok(())
 }
 
-// The line's first byte names the operation that its numbers go to.
-fn answer(out: &mut impl Write, line: &[u8]) -> io::Result<()> {
-    out.write_all(line)?;
-    if 0 < line.len() {
-        let operation = line[0];
-        match operation {
-            b'T' => temperatures::of_reading(out, line)?,
-            b'P' => temperatures::of_published(out, line)?,
-            b'K' => waters::of_pair(out, line)?,
-            b'W' => waters::of_degree(out, line)?,
-            b'Q' => waters::of_published(out, line)?,
-            b'F' => meters::of_card(out, line)?,
-            b'M' => meters::of_state(out, line)?,
-            b'V' => verdicts::of_point(out, line)?,
-            b'G' => verdicts::limit_at_point(out, line)?,
-            b'J' => verdicts::of_limit(out, line)?,
-            b'O' => readers::of_opening(out, line)?,
-            b'C' => readers::of_card(out, line)?,
-            b'S' => readers::of_sample_or_end(out, line)?,
-            b'A' => archives::of_file(out, line)?,
-            b'N' => archives::of_zeros(out, line)?,
-            b'L' => writers::of_values(out, line)?,
-            b'E' => conversions::of_file(out, line)?,
-            _ => {}
-        }
+fn put_answer(out: &mut impl Write, line: &[u8]) -> io::Result<()> {
+    match operate(out, line) {
+        Ok(()) => Ok(()),
+        Err(Unanswered::Refused(refusal)) => put_refusal(out, refusal),
+        Err(Unanswered::Failed(error)) => Err(error),
     }
-    out.write_all(b"\n")
+}
+
+// The line's first byte names the operation that its numbers go to. A table of the operations would have the same rows, and a search for the
+// byte besides.
+fn operate(out: &mut impl Write, line: &[u8]) -> Result<(), Unanswered> {
+    match line {
+        [b'T', ..] => temperatures::of_reading(out, line)?,
+        [b'P', ..] => temperatures::of_published(out, line)?,
+        [b'K', ..] => waters::of_pair(out, line)?,
+        [b'W', ..] => waters::of_degree(out, line)?,
+        [b'Q', ..] => waters::of_published(out, line)?,
+        [b'F', ..] => meters::of_card(out, line)?,
+        [b'M', ..] => meters::of_state(out, line)?,
+        [b'V', ..] => verdicts::of_point(out, line)?,
+        [b'G', ..] => verdicts::limit_at_point(out, line)?,
+        [b'J', ..] => verdicts::of_limit(out, line)?,
+        [b'O', ..] => readers::of_opening(out, line)?,
+        [b'C', ..] => readers::of_card(out, line)?,
+        [b'S', ..] => readers::of_sample_or_end(out, line)?,
+        [b'A', ..] => archives::of_file(out, line)?,
+        [b'N', ..] => archives::of_zeros(out, line)?,
+        [b'L', ..] => writers::of_values(out, line)?,
+        [b'E', ..] => conversions::of_file(out, line)?,
+        _ => {}
+    }
+    Ok(())
 }

@@ -1,9 +1,7 @@
 // Fresh meters of outside cards, and the meter's step from outside states.
-ghost use Rattle.std.specs.Prelude.{◌≤◌};
-
-use crate::answers::put;
-use crate::text::number;
-use meter::{Card, Meter, Sample};
+use crate::answers::Unanswered;
+use crate::text::{number, numbers};
+use meter::{Card, FreshMeter, Meter, Sample};
 use quantity::Outcome;
 use std::io;
 use std::io::Write;
@@ -11,73 +9,63 @@ use std::io::Write;
 // `M,` the card's twelve fields, the meter's state, then pulses, seconds, supply and return reading: the refusal or 0, then the state
 // afterwards. A state is register, volume, accepted, refused, edition, kept seconds and cold register.
 pub(crate) fn of_state(out: &mut impl Write, line: &[u8]) -> io::Result<()> {
+    let [
+        register,
+        volume,
+        accepted,
+        refused,
+        edition,
+        kept_seconds,
+        cold_register,
+    ] = numbers::<7>(line, 13);
     let before = Meter {
-        card: card_of(line, 0),
-        register: number(line, 13),
-        volume: number(line, 14),
-        accepted: number(line, 15),
-        refused: number(line, 16),
-        edition: number(line, 17),
-        kept_seconds: number(line, 18),
-        cold_register: number(line, 19),
+        card: Card::from_fields(numbers(line, 1)),
+        register,
+        volume,
+        accepted,
+        refused,
+        edition,
+        kept_seconds,
+        cold_register,
     };
-    let stepped = meter::step(before, sample_of(line, 19));
-    let outcome = stepped.outcome;
-    let after = stepped.meter;
-    match outcome {
-        Outcome::Accepted => put(out, b",", 0)?,
-        Outcome::Refused(refusal) => put(out, b",", refusal)?,
+    let stepped = meter::step(before, sample_of(line, 20));
+    match stepped.outcome {
+        Outcome::Accepted => out.write_all(b",0")?,
+        Outcome::Refused(refusal) => write!(out, ",{refusal}")?,
     }
-    put_state(out, after)
+    put_state(out, stepped.meter)
 }
 
 fn put_state(out: &mut impl Write, m: Meter) -> io::Result<()> {
-    put(out, b",", m.register)?;
-    put(out, b",", m.volume)?;
-    put(out, b",", m.accepted)?;
-    put(out, b",", m.refused)?;
-    put(out, b",", m.edition)?;
-    put(out, b",", m.kept_seconds)?;
-    put(out, b",", m.cold_register)
+    for number in [
+        m.register,
+        m.volume,
+        m.accepted,
+        m.refused,
+        m.edition,
+        m.kept_seconds,
+        m.cold_register,
+    ] {
+        write!(out, ",{number}")?;
+    }
+    Ok(())
 }
 
-// The card whose fields stand behind so many other numbers of the line.
-pub(crate) fn card_of(line: &[u8], before: usize) -> Card
-    requires { before ≤ 4 }
-{
-    Card::from_fields([
-        number(line, before + 1),
-        number(line, before + 2),
-        number(line, before + 3),
-        number(line, before + 4),
-        number(line, before + 5),
-        number(line, before + 6),
-        number(line, before + 7),
-        number(line, before + 8),
-        number(line, before + 9),
-        number(line, before + 10),
-        number(line, before + 11),
-        number(line, before + 12),
-    ])
-}
-
-// The sample whose four numbers stand behind so many others of the line.
-pub(crate) fn sample_of(line: &[u8], before: usize) -> Sample
-    requires { before ≤ 19 }
-{
+// The sample whose four numbers stand behind the k-th comma of the line.
+pub(crate) fn sample_of(line: &[u8], k: usize) -> Sample {
+    let [pulses, seconds, supply_reading, return_reading] = numbers::<4>(line, k);
     Sample {
-        pulses: number(line, before + 1),
-        seconds: number(line, before + 2),
-        supply_reading: number(line, before + 3),
-        return_reading: number(line, before + 4),
+        pulses,
+        seconds,
+        supply_reading,
+        return_reading,
     }
 }
 
 // `F,` the card's twelve fields and the edition: the fresh meter's state, or X and the refusal.
-pub(crate) fn of_card(out: &mut impl Write, line: &[u8]) -> io::Result<()> {
-    let start = meter::fresh(card_of(line, 0), number(line, 13));
-    match start {
-        meter::FreshMeter::Made(m) => put_state(out, m),
-        meter::FreshMeter::Refused(refusal) => put(out, b",X,", refusal),
+pub(crate) fn of_card(out: &mut impl Write, line: &[u8]) -> Result<(), Unanswered> {
+    match meter::fresh(Card::from_fields(numbers(line, 1)), number(line, 13)) {
+        FreshMeter::Made(m) => Ok(put_state(out, m)?),
+        FreshMeter::Refused(refusal) => Err(Unanswered::Refused(refusal)),
     }
 }

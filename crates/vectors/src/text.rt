@@ -1,66 +1,35 @@
-// The lines of the input and the numbers on a line.
-ghost use Rattle.std.specs.Prelude.{◌≤◌, length};
+// The fields of a line, which commas part, and the numbers in them.
 
-// The place of the line feed that ends the line at `at`, or the input's length.
-pub(crate) fn line_end(input: &[u8], at: usize) -> usize
-    requires { at ≤ length input.now }
-    ensures { (at ≤ result) × (result ≤ length input.now) }
-{
-    let mut end = at;
-    while end < input.len() {
-        if input[end] == b'\n' {
-            return end;
-        }
-        end += 1;
+// The numbers behind the k-th comma and those that follow it; 0 where there is no such comma.
+pub(crate) fn numbers<const N: usize>(line: &[u8], k: usize) -> [u64; N] {
+    let mut numbers = [0; N];
+    let fields = line.split(|byte| *byte == b',').skip(k);
+    for (number, field) in numbers.iter_mut().zip(fields) {
+        *number = field.iter().fold(0, |value, byte| with_digit(value, *byte));
     }
-    end
+    numbers
 }
 
-// The place behind the k-th comma of a line; the line's length where there is no such comma.
-pub(crate) fn field_start(line: &[u8], k: usize) -> usize {
-    let mut commas = 0;
-    for i in 0..line.len() {
-        if commas == k {
-            return i;
-        }
-        if line[i] == b',' {
-            commas += 1;
-        }
-    }
-    line.len()
-}
-
-// The number behind the k-th comma of a line; 0 where there is no such comma.
+// The number behind the k-th comma.
 pub(crate) fn number(line: &[u8], k: usize) -> u64 {
-    let mut value = 0;
-    let mut i = field_start(line, k);
-    while i < line.len() {
-        let byte = line[i];
-        if byte == b',' {
-            return value;
-        }
-        value = with_digit(value, byte);
-        i += 1;
-    }
-    value
+    numbers::<1>(line, k)[0]
 }
 
-// A number with one decimal digit more; 0 where 64 bits do not hold it, or where the byte is no digit.
+// The bytes behind the k-th comma, its last field: all up to the line's end; none where there is no such comma.
+pub(crate) fn last_field(line: &[u8], k: usize) -> &[u8] {
+    line.splitn(k.saturating_add(1), |byte| *byte == b',')
+        .nth(k)
+        .unwrap_or_default()
+}
+
+// A number with one decimal digit more; 0 where 64 bits do not hold it, or where the byte is no digit. So a number is read behind the last
+// byte that is no digit, which `parse` would refuse.
 fn with_digit(value: u64, byte: u8) -> u64 {
-    if byte < b'0' {
-        return 0;
+    match byte {
+        b'0'..=b'9' => value
+            .checked_mul(10)
+            .and_then(|tens| tens.checked_add((byte - b'0') as u64))
+            .unwrap_or(0),
+        _ => 0,
     }
-    if b'9' < byte {
-        return 0;
-    }
-    let digit = (byte - b'0') as u64;
-    if value < 1844674407370955161 {
-        return value * 10 + digit;
-    }
-    if value == 1844674407370955161 {
-        if digit < 6 {
-            return value * 10 + digit;
-        }
-    }
-    0
 }

@@ -1,61 +1,59 @@
 // Limits, comparisons and verdicts of the test bench on outside figures.
-use crate::answers::put;
-use crate::text::number;
+use crate::answers::Unanswered;
+use crate::text::numbers;
 use quantity::{Difference, Fraction};
-use std::io;
 use std::io::Write;
 use verdict::{ErrorLimit, TestPoint, Verdict};
 
 // The test point whose seven numbers stand at the front of a line.
 fn point_of(line: &[u8]) -> TestPoint {
+    let [part, class, stage, delta_min, difference, qp, q] = numbers::<7>(line, 1);
     TestPoint {
-        part: number(line, 1),
-        class: number(line, 2),
-        stage: number(line, 3),
-        delta_min: number(line, 4),
-        difference: Difference(number(line, 5)),
-        qp: number(line, 6),
-        q: number(line, 7),
+        part,
+        class,
+        stage,
+        delta_min,
+        difference: Difference(difference),
+        qp,
+        q,
     }
 }
 
 // `V,part,class,stage,delta min,difference,qp,q,indicated,conventional true value`: the verdict.
-pub(crate) fn of_point(out: &mut impl Write, line: &[u8]) -> io::Result<()> {
+pub(crate) fn of_point(out: &mut impl Write, line: &[u8]) -> Result<(), Unanswered> {
+    let [indicated, conventional] = numbers::<2>(line, 8);
     put_verdict(
         out,
-        verdict::error_verdict(point_of(line), number(line, 8), number(line, 9)),
+        verdict::error_verdict(point_of(line), indicated, conventional),
     )
 }
 
 // `J,indicated,conventional true value,numerator,denominator`: the comparison's answer.
-pub(crate) fn of_limit(out: &mut impl Write, line: &[u8]) -> io::Result<()> {
+pub(crate) fn of_limit(out: &mut impl Write, line: &[u8]) -> Result<(), Unanswered> {
+    let [indicated, conventional, numerator, denominator] = numbers::<4>(line, 1);
     let limit = Fraction {
-        numerator: number(line, 3),
-        denominator: number(line, 4),
+        numerator,
+        denominator,
     };
-    put_verdict(
-        out,
-        verdict::compare_error(limit, number(line, 1), number(line, 2)),
-    )
+    put_verdict(out, verdict::compare_error(limit, indicated, conventional))
 }
 
 // V and 1 for a pass or 0 for a fail, or X and the refusal.
-fn put_verdict(out: &mut impl Write, answer: Verdict) -> io::Result<()> {
+fn put_verdict(out: &mut impl Write, answer: Verdict) -> Result<(), Unanswered> {
     match answer {
-        Verdict::Pass => put(out, b",V,", 1),
-        Verdict::Fail => put(out, b",V,", 0),
-        Verdict::Refused(refusal) => put(out, b",X,", refusal),
+        Verdict::Pass => out.write_all(b",V,1")?,
+        Verdict::Fail => out.write_all(b",V,0")?,
+        Verdict::Refused(refusal) => return Err(Unanswered::Refused(refusal)),
     }
+    Ok(())
 }
 
 // `G,part,class,stage,delta min,difference,qp,q`: L with the limit's numerator and denominator, or X and the refusal.
-pub(crate) fn limit_at_point(out: &mut impl Write, line: &[u8]) -> io::Result<()> {
-    let answer = verdict::error_limit(point_of(line));
-    match answer {
+pub(crate) fn limit_at_point(out: &mut impl Write, line: &[u8]) -> Result<(), Unanswered> {
+    match verdict::error_limit(point_of(line)) {
         ErrorLimit::Percent(limit) => {
-            put(out, b",L,", limit.numerator)?;
-            put(out, b",", limit.denominator)
+            Ok(write!(out, ",L,{},{}", limit.numerator, limit.denominator)?)
         }
-        ErrorLimit::Refused(refusal) => put(out, b",X,", refusal),
+        ErrorLimit::Refused(refusal) => Err(Unanswered::Refused(refusal)),
     }
 }

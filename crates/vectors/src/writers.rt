@@ -1,61 +1,64 @@
 // The writer of one line, from values, into the last bytes of a space of 96 points.
-use crate::answers::put;
-use crate::meters::{card_of, sample_of};
-use crate::text::number;
+use crate::answers::put_refusal;
+use crate::meters::sample_of;
+use crate::text::numbers;
 use lines::{EditionLine, Line, Totals, Written};
+use meter::Card;
 use std::io;
 use std::io::Write;
 
 // `L,` a kind (0 opening, 1 card, 2 sample, 3 last line), the edition, the bytes lent, the place, and the line's numbers: the next place, or
 // X and the refusal, then the whole space. The last line has every edition's numbers.
 pub(crate) fn of_values(out: &mut impl Write, line: &[u8]) -> io::Result<()> {
-    let kind = number(line, 1);
-    match kind {
-        0 => put_line(out, line, Line::Opening),
-        1 => put_line(out, line, Line::Card(card_of(line, 4))),
-        2 => put_line(out, line, Line::Sample(sample_of(line, 4))),
-        _ => put_line(out, line, Line::End(totals_of(line))),
-    }
-}
-
-fn totals_of(line: &[u8]) -> Totals {
-    Totals {
-        accepted: number(line, 5),
-        refused: number(line, 6),
-        register: number(line, 7),
-        volume: number(line, 8),
-        kept_seconds: number(line, 9),
-        cold_register: number(line, 10),
-    }
-}
-
-fn put_line(out: &mut impl Write, line: &[u8], content: Line) -> io::Result<()> {
-    let mut space = [b'.'; 96];
+    let [kind, edition, lent, at] = numbers::<4>(line, 1);
+    let content = match kind {
+        0 => Line::Opening,
+        1 => Line::Card(Card::from_fields(numbers(line, 5))),
+        2 => Line::Sample(sample_of(line, 5)),
+        _ => Line::End(totals_of(line)),
+    };
     let what = EditionLine {
-        edition: number(line, 2),
+        edition,
         line: content,
     };
-    let size = number(line, 3) as usize;
-    let at = number(line, 4) as usize;
-    put_written(out, &mut space, size, at, what)?;
+    let mut space = [b'.'; 96];
+    put_next(out, &mut space, lent as usize, at as usize, what)?;
     out.write_all(b",")?;
     out.write_all(&space)
 }
 
-fn put_written(
+fn totals_of(line: &[u8]) -> Totals {
+    let [
+        accepted,
+        refused,
+        register,
+        volume,
+        kept_seconds,
+        cold_register,
+    ] = numbers::<6>(line, 5);
+    Totals {
+        accepted,
+        refused,
+        register,
+        volume,
+        kept_seconds,
+        cold_register,
+    }
+}
+
+// No answer where the space has fewer bytes than are to be lent.
+fn put_next(
     out: &mut impl Write,
     space: &mut [u8],
-    size: usize,
+    lent: usize,
     at: usize,
     what: EditionLine,
 ) -> io::Result<()> {
-    if space.len() < size {
+    let Some(start) = space.len().checked_sub(lent) else {
         return Ok(());
-    }
-    let start = space.len() - size;
-    let written = lines::write_line(&mut space[start..], at, what);
-    match written {
-        Written::Next(next) => put(out, b",", next as u64),
-        Written::Refused(number) => put(out, b",X,", number),
+    };
+    match lines::write_line(&mut space[start..], at, what) {
+        Written::Next(next) => write!(out, ",{next}"),
+        Written::Refused(refusal) => put_refusal(out, refusal),
     }
 }
