@@ -2,20 +2,23 @@
 -- Assumes nothing.
 use mathlib.Core.Path.{refl}
 use Rattle.quantity.specs.Largest.{largest}
-use Rattle.quantity.specs.Range.{end_number}
+use Rattle.quantity.specs.Range.{end_refusal}
+use Rattle.quantity.specs.Refusals.{number_of}
 use Rattle.platinum.specs.Sensor.{resistance_of, sensor_of}
 use Rattle.platinum.specs.Temperature.{W, of_resistance, temperature_of}
-use Rattle.platinum.specs.Refusal.{refusal_of}
+use Rattle.platinum.specs.Refusal.{refusal_of, unmeasured_refusal}
 use Rattle.verdict.proofs.Edges.{verdict_edges}
 use Rattle.vectors.specs.Theorems.{MarkedEdges}
 
 pub marked_edges : MarkedEdges
-unfolding temperature_of sensor_of resistance_of of_resistance largest W refusal_of end_number
+unfolding temperature_of sensor_of resistance_of of_resistance largest W refusal_of unmeasured_refusal end_refusal number_of
 marked_edges = record {
   lowest = refl;
   below = refl;
+  below_number = refl;
   highest = refl;
   above = refl;
+  above_number = refl;
   at_20 = refl;
   at_80 = refl;
   under_10 = refl;

@@ -2,7 +2,7 @@
 use crate::hexadecimal::{MOST_BYTES, bytes_of};
 use crate::text::number;
 use archive::AUDIT_LIMIT;
-use lines::Written;
+use quantity::Refusal;
 use std::io;
 use std::io::Write;
 
@@ -23,11 +23,15 @@ fn put_report(out: &mut impl Write, space: &[u8], used: usize) -> io::Result<()>
     put_text(out, &report.bytes[..report.length])
 }
 
-// What was written at the front of a space, or the refusal.
-pub(crate) fn put_written(out: &mut impl Write, space: &[u8], written: Written) -> io::Result<()> {
-    match written {
-        Written::Next(n) => put_text(out, space.get(..n).unwrap_or_default()),
-        Written::Refused(refusal) => write!(out, ",refused {refusal}"),
+// The line that was written at the front of a space, up to the next place, or the refusal.
+pub(crate) fn put_written(
+    out: &mut impl Write,
+    space: &[u8],
+    next: Result<usize, Refusal>,
+) -> io::Result<()> {
+    match next {
+        Ok(next) => put_text(out, space.get(..next).unwrap_or_default()),
+        Err(refusal) => write!(out, ",refused {refusal}"),
     }
 }
 

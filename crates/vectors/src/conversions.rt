@@ -2,7 +2,8 @@
 use crate::answers::put_refusal;
 use crate::hexadecimal::{MOST_BYTES, bytes_of, put_bytes};
 use crate::text::numbers;
-use conversion::Converted;
+use conversion::Unconverted;
+use lines::RefusedAt;
 use std::io;
 use std::io::Write;
 
@@ -19,20 +20,20 @@ pub(crate) fn of_file(out: &mut impl Write, line: &[u8]) -> io::Result<()> {
 }
 
 fn put_converted(out: &mut impl Write, from: u64, bytes: &[u8], buf: &mut [u8]) -> io::Result<()> {
-    let converted = match from {
+    let length = match from {
         2 => conversion::to_edition_3(bytes, buf),
         3 => conversion::to_edition_2(bytes, buf),
         _ => return Ok(()),
     };
-    put_length(out, converted)?;
+    put_length(out, length)?;
     out.write_all(b",")?;
     put_bytes(out, buf)
 }
 
-fn put_length(out: &mut impl Write, converted: Converted) -> io::Result<()> {
-    match converted {
-        Converted::Length(n) => write!(out, ",N,{n}"),
-        Converted::RefusedAt { number, line } => write!(out, ",X,{number},{line}"),
-        Converted::Refused(refusal) => put_refusal(out, refusal),
+fn put_length(out: &mut impl Write, length: Result<usize, Unconverted>) -> io::Result<()> {
+    match length {
+        Ok(length) => write!(out, ",N,{length}"),
+        Err(Unconverted::At(RefusedAt { refusal, line })) => write!(out, ",X,{refusal},{line}"),
+        Err(Unconverted::Refused(refusal)) => put_refusal(out, refusal),
     }
 }

@@ -54,7 +54,7 @@ fn put_answer(out: &mut impl Write, line: &[u8]) -> io::Result<()> {
 }
 
 // The line's first byte names the operation that its numbers go to. A table of the operations would have the same rows, and a search for the
-// byte besides.
+// byte besides; a struct of the output and the line would be taken apart again in each operation.
 fn operate(out: &mut impl Write, line: &[u8]) -> Result<(), Unanswered> {
     match line {
         [b'T', ..] => temperatures::of_reading(out, line)?,

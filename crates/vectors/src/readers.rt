@@ -3,7 +3,7 @@ use crate::answers::put_refusal;
 use crate::archives::put_written;
 use crate::hexadecimal::{MOST_BYTES, bytes_of};
 use crate::text::number;
-use lines::{EditionLine, Front, MayCome};
+use lines::{EditionLine, MayCome};
 use std::io;
 use std::io::Write;
 
@@ -29,22 +29,22 @@ fn put_read(out: &mut impl Write, line: &[u8], k: usize, may_come: MayCome) -> i
     let read = lines::read_line(bytes_of(line, k, &mut space), may_come);
     let after = read.rest.len();
     match read.front {
-        Front::Read(what, _) => {
-            put_again(out, what)?;
+        Ok(front) => {
+            put_again(out, front.line)?;
             write!(out, ",{after}")
         }
-        Front::Refused(refusal) => {
+        Err(refusal) => {
             put_refusal(out, refusal)?;
-            match after {
-                0 => Ok(()),
-                _ => write!(out, ",rest {after}"),
+            if after > 0 {
+                write!(out, ",rest {after}")?;
             }
+            Ok(())
         }
     }
 }
 
 fn put_again(out: &mut impl Write, what: EditionLine) -> io::Result<()> {
     let mut space = [0; 512];
-    let written = lines::write_line(&mut space, 0, what);
-    put_written(out, &space, written)
+    let next = lines::write_line(&mut space, 0, what);
+    put_written(out, &space, next)
 }

@@ -1,18 +1,17 @@
 // The temperature operation on outside readings.
 use crate::answers::{Unanswered, put_refusal};
 use crate::text::numbers;
-use platinum::{Measured, Sensor};
-use quantity::{Difference, Outcome, Position, Temperature};
+use platinum::{Sensor, Unmeasured};
+use quantity::{Difference, Position, Temperature, Unit};
 use std::io;
 use std::io::Write;
 
 // `T,sensor,reading`: T and the temperature, or X and the refusal.
 pub(crate) fn of_reading(out: &mut impl Write, line: &[u8]) -> Result<(), Unanswered> {
     let [sensor, reading] = numbers::<2>(line, 1);
-    match platinum::temperature(sensor, reading) {
-        Measured::At(t) => Ok(write!(out, ",T,{}", t.0)?),
-        measured => Err(Unanswered::Refused(number_of(measured))),
-    }
+    let measured = platinum::temperature(sensor, reading);
+    let t = measured.map_err(|unmeasured| unmeasured.refusal(Position::Alone))?;
+    Ok(write!(out, ",T,{}", t.0)?)
 }
 
 // `P,degree,resistance of a Pt 100 in hundredths of an ohm`: for each sensor kind in turn, `within` where the temperature
@@ -20,7 +19,7 @@ pub(crate) fn of_reading(out: &mut impl Write, line: &[u8]) -> Result<(), Unansw
 #[tactic(auto, using(platinum::proofs::Resistances::resistance_range))]
 pub(crate) fn of_published(out: &mut impl Write, line: &[u8]) -> io::Result<()> {
     let [degree, resistance] = numbers::<2>(line, 1);
-    let degree = Temperature::of_degrees((degree % 1000) as u32);
+    let degree = Temperature::whole((degree % 1000) as u32);
     for sensor in [Sensor::Pt100, Sensor::Pt500, Sensor::Pt1000] {
         let ohm = sensor.resistance();
         let measured = platinum::temperature(ohm, resistance % 1000000 * ohm);
@@ -29,27 +28,20 @@ pub(crate) fn of_published(out: &mut impl Write, line: &[u8]) -> io::Result<()> 
     Ok(())
 }
 
-fn put_nearness(out: &mut impl Write, measured: Measured, degree: Temperature) -> io::Result<()> {
+fn put_nearness(
+    out: &mut impl Write,
+    measured: Result<Temperature, Unmeasured>,
+    degree: Temperature,
+) -> io::Result<()> {
     match measured {
-        Measured::At(t) if is_near(t, degree) => out.write_all(b",within"),
-        Measured::At(_) => out.write_all(b",outside"),
-        measured => put_refusal(out, number_of(measured)),
-    }
-}
-
-// The number of a reading's refusal by itself.
-fn number_of(measured: Measured) -> u64 {
-    match measured.refusal(Position::Alone) {
-        Outcome::Refused(refusal) => refusal,
-        Outcome::Accepted => 0,
+        Ok(t) if is_near(t, degree) => out.write_all(b",within"),
+        Ok(_) => out.write_all(b",outside"),
+        Err(unmeasured) => put_refusal(out, unmeasured.refusal(Position::Alone)),
     }
 }
 
 // The published resistances are rounded to 0.01 ohm, some 0.026 °C.
 fn is_near(t: Temperature, degree: Temperature) -> bool {
-    if degree.is_below(t) {
-        t.distance(degree).is_below(Difference(2))
-    } else {
-        t.distance(degree).is_below(Difference(3))
-    }
+    let bound = if degree < t { 2 } else { 3 };
+    t.distance(degree) < Difference(bound)
 }

@@ -2,8 +2,9 @@
 use crate::answers::Unanswered;
 use crate::text::numbers;
 use quantity::{Difference, Fraction};
+use std::io;
 use std::io::Write;
-use verdict::{ErrorLimit, TestPoint, Verdict};
+use verdict::{TestPoint, Verdict};
 
 // The test point whose seven numbers stand at the front of a line.
 fn point_of(line: &[u8]) -> TestPoint {
@@ -19,41 +20,37 @@ fn point_of(line: &[u8]) -> TestPoint {
     }
 }
 
-// `V,part,class,stage,delta min,difference,qp,q,indicated,conventional true value`: the verdict.
+// `V,part,class,stage,delta min,difference,qp,q,indicated,conventional true value`: the verdict, or X and the refusal.
 pub(crate) fn of_point(out: &mut impl Write, line: &[u8]) -> Result<(), Unanswered> {
     let [indicated, conventional] = numbers::<2>(line, 8);
-    put_verdict(
-        out,
-        verdict::error_verdict(point_of(line), indicated, conventional),
-    )
+    let verdict = verdict::error_verdict(point_of(line), indicated, conventional)?;
+    Ok(put_verdict(out, verdict)?)
 }
 
-// `J,indicated,conventional true value,numerator,denominator`: the comparison's answer.
+// `J,indicated,conventional true value,numerator,denominator`: the comparison's verdict, or X and the refusal.
 pub(crate) fn of_limit(out: &mut impl Write, line: &[u8]) -> Result<(), Unanswered> {
     let [indicated, conventional, numerator, denominator] = numbers::<4>(line, 1);
     let limit = Fraction {
         numerator,
         denominator,
     };
-    put_verdict(out, verdict::compare_error(limit, indicated, conventional))
+    let verdict = verdict::compare_error(limit, indicated, conventional)?;
+    Ok(put_verdict(out, verdict)?)
 }
 
-// V and 1 for a pass or 0 for a fail, or X and the refusal.
-fn put_verdict(out: &mut impl Write, answer: Verdict) -> Result<(), Unanswered> {
-    match answer {
-        Verdict::Pass => out.write_all(b",V,1")?,
-        Verdict::Fail => out.write_all(b",V,0")?,
-        Verdict::Refused(refusal) => return Err(Unanswered::Refused(refusal)),
+// V and 1 for a pass or 0 for a fail.
+fn put_verdict(out: &mut impl Write, verdict: Verdict) -> io::Result<()> {
+    match verdict {
+        Verdict::Pass => out.write_all(b",V,1"),
+        Verdict::Fail => out.write_all(b",V,0"),
     }
-    Ok(())
 }
 
 // `G,part,class,stage,delta min,difference,qp,q`: L with the limit's numerator and denominator, or X and the refusal.
 pub(crate) fn limit_at_point(out: &mut impl Write, line: &[u8]) -> Result<(), Unanswered> {
-    match verdict::error_limit(point_of(line)) {
-        ErrorLimit::Percent(limit) => {
-            Ok(write!(out, ",L,{},{}", limit.numerator, limit.denominator)?)
-        }
-        ErrorLimit::Refused(refusal) => Err(Unanswered::Refused(refusal)),
-    }
+    let Fraction {
+        numerator,
+        denominator,
+    } = verdict::error_limit(point_of(line))?;
+    Ok(write!(out, ",L,{numerator},{denominator}")?)
 }

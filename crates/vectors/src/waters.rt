@@ -1,10 +1,9 @@
 // The water table and the heat coefficient against outside figures.
 use crate::answers::Unanswered;
 use crate::text::{number, numbers};
-use quantity::Temperature;
+use quantity::{Refusal, Temperature};
 use std::io;
 use std::io::Write;
-use water::{Coefficient, Entry};
 
 // `K,ts,tr,place`: K and the coefficient, or X and the refusal.
 pub(crate) fn of_pair(out: &mut impl Write, line: &[u8]) -> Result<(), Unanswered> {
@@ -19,24 +18,21 @@ pub(crate) fn of_published(out: &mut impl Write, line: &[u8]) -> Result<(), Unan
 }
 
 // The coefficient of the two temperatures and the place at the front of a line.
-fn coefficient_of(line: &[u8]) -> Result<u64, Unanswered> {
+fn coefficient_of(line: &[u8]) -> Result<u64, Refusal> {
     let [supply, returned, place] = numbers::<3>(line, 1);
-    match water::coefficient(Temperature(supply), Temperature(returned), place) {
-        Coefficient::Value(value) => Ok(value),
-        Coefficient::Refused(refusal) => Err(Unanswered::Refused(refusal)),
-    }
+    water::coefficient(Temperature(supply), Temperature(returned), place)
 }
 
 // `W,degree,unit of enthalpy,unit of volume`: the table's entry, in the units in which the figures are published.
 pub(crate) fn of_degree(out: &mut impl Write, line: &[u8]) -> io::Result<()> {
     let [degree, enthalpy_unit, volume_unit] = numbers::<3>(line, 1);
     match water::table_entry(degree) {
-        Entry::At { enthalpy, volume } => {
-            let enthalpy = in_units(enthalpy, enthalpy_unit);
-            let volume = in_units(volume, volume_unit);
+        Some(entry) => {
+            let enthalpy = in_units(entry.enthalpy, enthalpy_unit);
+            let volume = in_units(entry.volume, volume_unit);
             write!(out, ",{enthalpy},{volume}")
         }
-        Entry::Outside => out.write_all(b",outside"),
+        None => out.write_all(b",outside"),
     }
 }
 

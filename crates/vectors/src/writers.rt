@@ -1,9 +1,8 @@
 // The writer of one line, from values, into the last bytes of a space of 96 points.
 use crate::answers::put_refusal;
-use crate::meters::sample_of;
 use crate::text::numbers;
-use lines::{EditionLine, Line, Totals, Written};
-use meter::Card;
+use lines::{EditionLine, Line, Totals};
+use meter::{Card, Sample};
 use std::io;
 use std::io::Write;
 
@@ -13,9 +12,9 @@ pub(crate) fn of_values(out: &mut impl Write, line: &[u8]) -> io::Result<()> {
     let [kind, edition, lent, at] = numbers::<4>(line, 1);
     let content = match kind {
         0 => Line::Opening,
-        1 => Line::Card(Card::from_fields(numbers(line, 5))),
-        2 => Line::Sample(sample_of(line, 5)),
-        _ => Line::End(totals_of(line)),
+        1 => Line::Card(Card::from(numbers(line, 5))),
+        2 => Line::Sample(Sample::from(numbers(line, 5))),
+        _ => Line::End(Totals::from(numbers(line, 5))),
     };
     let what = EditionLine {
         edition,
@@ -25,25 +24,6 @@ pub(crate) fn of_values(out: &mut impl Write, line: &[u8]) -> io::Result<()> {
     put_next(out, &mut space, lent as usize, at as usize, what)?;
     out.write_all(b",")?;
     out.write_all(&space)
-}
-
-fn totals_of(line: &[u8]) -> Totals {
-    let [
-        accepted,
-        refused,
-        register,
-        volume,
-        kept_seconds,
-        cold_register,
-    ] = numbers::<6>(line, 5);
-    Totals {
-        accepted,
-        refused,
-        register,
-        volume,
-        kept_seconds,
-        cold_register,
-    }
 }
 
 // No answer where the space has fewer bytes than are to be lent.
@@ -58,7 +38,7 @@ fn put_next(
         return Ok(());
     };
     match lines::write_line(&mut space[start..], at, what) {
-        Written::Next(next) => write!(out, ",{next}"),
-        Written::Refused(refusal) => put_refusal(out, refusal),
+        Ok(next) => write!(out, ",{next}"),
+        Err(refusal) => put_refusal(out, refusal),
     }
 }
