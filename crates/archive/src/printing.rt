@@ -34,7 +34,7 @@ fn found(space: &[u8], used: usize, limit: usize) -> Report
     of_audited(audit(&space[..used]))
 }
 
-// No `From`: both types are of other crates.
+// What the report shows of an answer. No `From`: it would stand with its types, in `lines`, and the audit's answer is this crate's.
 #[tactic(auto, unfolding(crate::specs::Report::of_audited))]
 fn of_audited(answer: Result<Meter, RefusedAt>) -> Report
     ensures { result ≡ of_audited answer }

@@ -7,8 +7,8 @@ use std::io;
 use std::io::Read;
 
 // How many bytes stand at the start of the space. A `while`, since each read tells where the next begins: `read_exact` fails where the input ends
-// early, `read_to_end` allocates, and with `io::copy` into the space the clause `bytes` did not prove, since no contract says which bytes a
-// slice was written.
+// early, `read_to_end` allocates, and with `io::copy` into the space the clause `bytes` did not prove: it speaks of the writer's `contents`, and a slice
+// has none.
 pub(crate) fn read_all<R: Read>(input: &mut R, buf: &mut [u8]) -> io::Result<usize>
     ensures size { IfOk result (λ size. size ≤ length buf.new) }
     ensures bytes { IfOk result (λ size. Consumes (R.remaining input.old) (R.remaining input.new) (take size buf.new)) }

@@ -103,10 +103,11 @@ later_rows (M.SampleOrEnd e) bs = line_rows e (due_kind (M.SampleOrEnd e) bs) bs
 unfoldable pub read_rows : MayCome → List ℕ → List Row
 read_rows may bs = row R.Edition (is_other_edition (edition_in may bs)) ∷ later_rows may bs
 
--- what the reader answers: the line in its edition and how many bytes it takes, or the first row's refusal
+-- a line in its edition and how many bytes it takes
 abbrev pub front_of : EditionLine → ℕ → Result Front Refusal
 front_of line n = Ok (record { line = line; size = n })
 
+-- what the reader answers: these two, or the first row's refusal
 unfoldable pub answer_of : EditionLine → ℕ → Result Unit Refusal → Result Front Refusal
 answer_of line n (Ok u) = front_of line n
 answer_of line n (Err r) = Err r

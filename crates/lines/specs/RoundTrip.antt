@@ -43,7 +43,8 @@ pub record WritesBack (may : MayCome) (bs : List ℕ) (line : EditionLine) (n : 
 abbrev pub is_misshapen_due : MayCome → List ℕ → Bool
 is_misshapen_due may bs = is_misshapen (first_field (due_kind may bs)) (count_of (edition_in may bs) (due_kind may bs)) bs
 
--- What a refusal of the reader says: its own condition holds, and none before it. The edition's, of the opening, says that the bytes begin with no edition's.
+-- What a refusal of the reader says: its own condition holds, and none before it. That of the edition, where the opening is due, says that the bytes
+-- begin with no edition's opening.
 pub data Cause (bs : List ℕ) : MayCome → Refusal → Type 0 where
   other_edition : {may : MayCome} → is_other_edition (edition_in may bs) ≡ true → Cause bs may R.Edition
   misshapen : {may : MayCome} → (may ≡ M.Opening → ⊥) → is_other_edition (edition_in may bs) ≡ false → is_misshapen_due may bs ≡ true → Cause bs may R.Shape

@@ -16,7 +16,8 @@ pub(crate) const MOST_NUMBERS: usize = CARD_FIELDS;
 // Of the lines after it, the last one has the most, in the newest edition.
 pub(crate) const MOST_LATER: usize = 6;
 
-// The first count of the numbers are those that a line can have, and of these it has the first shown.
+// The first count of the numbers are those that a line can have, and of these it has the first shown. No vector of fixed room would do for both
+// lengths, so the model says what the two mean, and no function outside sees them.
 #[derive(Debug, Drop)]
 pub(crate) struct Listed {
     numbers: [u64; MOST_NUMBERS],

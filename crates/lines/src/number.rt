@@ -55,16 +55,8 @@ fn checked_number(part: &[u8], value: u64, n: usize) -> Option<Number>
     requires { Digits part.now value n }
     ensures { result ≡ number_at part.now }
 {
-    if n == 0 {
+    if n == 0 || MOST_DIGITS < n || (1 < n && part[0] == b'0') {
         return None;
-    }
-    if MOST_DIGITS < n {
-        return None;
-    }
-    if 1 < n {
-        if part[0] == b'0' {
-            return None;
-        }
     }
     Some(Number { value, size: n })
 }
@@ -93,7 +85,7 @@ pub(crate) fn put_field(part: &mut [u8], x: u64) -> usize
     n + 1
 }
 
-// Puts the last k digits of x at the front of part.
+// Puts the last k digits of x at the front of part, from the last one down: the index says which place of the number the digit has.
 #[tactic(auto, unfolding(crate::specs::Inside::Parts::last_digits))]
 fn put_digits(part: &mut [u8], k: usize, x: u64)
     requires { k ≤ length part.old }

@@ -20,7 +20,8 @@ fn opening_of(edition: u64) -> [u8; OPENING_LENGTH]
     bytes
 }
 
-// The edition whose opening stands at the front of bytes; 0 where none does.
+// The edition whose opening stands at the front of bytes; 0, which is no edition, where none does, as the definition has it: so the row of the edition
+// serves both the opening and what was told. No `find`: std has no law of a range that is reversed.
 #[tactic(auto, using(crate::proofs::Openings::opened_here, crate::proofs::Openings::opened_below, crate::proofs::Openings::opened_none))]
 pub(crate) fn opened_edition(bytes: &[u8]) -> u64
     ensures { result ≡ opened_up_to last_edition bytes.now }

@@ -51,8 +51,8 @@ fn edition_in(bytes: &[u8], may_come: MayCome) -> u64
     }
 }
 
-// Each letter has a function of its own. One for all, told the kind, was tried: a sample's line passed through the widest line, and took 68
-// instructions more.
+// Each letter has a function of its own. One for all, told the kind by a value, was tried: a sample's line passed through the widest line, and took 732
+// instructions where it had taken 664.
 
 // The card's line, by what follows its letter. The card's own rows come after those of the line's shape.
 fn front_card(after: &[u8], edition: u64) -> Result<Front, Refusal>

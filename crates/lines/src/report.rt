@@ -1,6 +1,6 @@
 // The line that the audit program prints (document 01, "Edges to try": "prints R, serial, accepted, refused, register, volume; or X, refusal,
 // line; ended by byte 0A").
-ghost use Rattle.std.specs.Prelude.{◌≡◌, ◌∷◌, [], ◌≤◌, length};
+ghost use Rattle.std.specs.Prelude.{◌≡◌, ◌≤◌, length};
 ghost use Rattle.lines.specs.Line.{text_of};
 ghost use Rattle.lines.specs.Report.{report_text, most_reported, longest_output, output_of};
 
@@ -14,7 +14,8 @@ const MOST_DIGITS_64: usize = 20;
 // No output line is longer: a letter, five numbers, each after a comma, and the line feed.
 const LONGEST: usize = 1 + MOST_REPORTED * (1 + MOST_DIGITS_64) + 1;
 
-// What an audit found: the state that the file ends with, or the first refusal and its line.
+// What an audit found: the state that the file ends with, or the first refusal and its line. No Result: it is what a line shows, of any numbers, and a
+// `Refusal` in the number's place would ask more of callers, which a rule of the project forbids.
 #[derive(Clone, Copy)]
 pub enum Report {
     EndState {

@@ -34,8 +34,9 @@ unfoldable pub field_at : List ℕ → Option Number
 field_at [] = None
 field_at (b ∷ bs) = cond (eqb b comma) (one_more (number_at bs)) None
 
--- By what follows a line's letter: its numbers and the bytes that it takes, its letter among them, where no row of its shape refuses it; or the refusal.
--- What is left of the first field there is nothing.
+-- By what follows a line's letter: its numbers and the bytes that it takes, its letter among them, where no row of its shape refuses it; or the
+-- refusal.
+-- After the letter nothing is left of the first field.
 pub data NumbersRead (after out : List ℕ) : Result ℕ Refusal → Type 0 where
   all_read : first_of (shape_rows [] (length out) after) ≡ Ok tt → out ≡ numbers_in after → NumbersRead after out (Ok (size_of after + 1))
   line_refused : (r : Refusal) → first_of (shape_rows [] (length out) after) ≡ Err r → NumbersRead after out (Err r)
