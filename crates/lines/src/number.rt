@@ -85,7 +85,8 @@ pub(crate) fn put_field(part: &mut [u8], x: u64) -> usize
     n + 1
 }
 
-// Puts the last k digits of x at the front of part, from the last one down: the index says which place of the number the digit has.
+// Puts the last k digits of x at the front of part, from the last one down. With `part[..k].iter_mut().rev()`, which was tried, the digits that are
+// written already have no name in the loop's invariant, and the proof did not close.
 #[tactic(auto, unfolding(crate::specs::Inside::Parts::last_digits))]
 fn put_digits(part: &mut [u8], k: usize, x: u64)
     requires { k ≤ length part.old }

@@ -88,7 +88,8 @@ fn put_line(part: &mut [u8], what: EditionLine) -> usize
     put_text(part, first_field(what.line), listed.shown())
 }
 
-// Puts the first field, the numbers and the line's end.
+// Puts the first field, the numbers and the line's end. The two are a line's parts only here and where its length is taken: a struct of both would be
+// taken apart at once.
 #[tactic(auto, using(crate::proofs::Listing::fields_room, crate::proofs::Listing::end_room))]
 pub(crate) fn put_text(part: &mut [u8], first: &[u8], numbers: &[u64]) -> usize
     requires { length (text_of first.now numbers.now) ≤ length part.old }
@@ -101,7 +102,7 @@ pub(crate) fn put_text(part: &mut [u8], first: &[u8], numbers: &[u64]) -> usize
     end + 1
 }
 
-// Puts the numbers, each after a comma.
+// Puts the numbers, each after a comma. The part that starts at a field's place is lent on to its writer, a form that document 01 names.
 #[tactic(auto, using(crate::proofs::Listing::begun, crate::proofs::Listing::next_place))]
 fn put_fields(part: &mut [u8], numbers: &[u64]) -> usize
     requires { length (after_commas (map decimal numbers.now)) ≤ length part.old }

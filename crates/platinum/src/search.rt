@@ -19,7 +19,8 @@ pub(crate) struct Share {
 
 impl Share {
     // The largest t at which the curve is at most the share. The span that is searched is at first the start alone, which is not below the
-    // answer; it grows downwards until it holds the answer.
+    // answer; it grows downwards until it holds the answer. No `find`, which was tried: three goals stayed open, and std has no law of a range that is
+    // reversed.
     #[tactic(auto, using(crate::proofs::Shares::answer_largest, crate::proofs::Shares::above_answer, crate::proofs::Start::start_bounds))]
     pub(crate) fn largest_at_most(self) -> u64
         ensures { result ≡ largest (λ t. leb (W t) self.value) last_hundredth }

@@ -18,6 +18,7 @@ pub(crate) fn of_zeros(out: &mut impl Write, line: &[u8]) -> io::Result<()> {
     put_report(out, &[0; AUDIT_LIMIT + 1], number(line, 1) as usize)
 }
 
+// Space and used part go apart, as `archive::report` takes them.
 fn put_report(out: &mut impl Write, space: &[u8], used: usize) -> io::Result<()> {
     let report = archive::report(space, used, AUDIT_LIMIT);
     put_text(out, &report.bytes[..report.length])

@@ -21,7 +21,7 @@ pub(crate) fn bytes_of<'a>(line: &[u8], k: usize, buf: &'a mut [u8]) -> &'a [u8]
     bytes
 }
 
-// The value of a digit, small letters for ten to fifteen; 0 for any other byte.
+// The value of a digit, small letters for ten to fifteen; 0 for any other byte, also for capital letters, which `to_digit` would take.
 fn digit(byte: u8) -> u8
     ensures { result ≤ 15 }
 {

@@ -28,7 +28,7 @@ fn with_digit(value: u64, byte: u8) -> u64 {
     match byte {
         b'0'..=b'9' => value
             .checked_mul(10)
-            .and_then(|tens| tens.checked_add((byte - b'0') as u64))
+            .and_then(|tens| tens.checked_add(u64::from(byte - b'0')))
             .unwrap_or(0),
         _ => 0,
     }
