@@ -3,7 +3,6 @@
 use mathlib.Core.Path.{◌≡◌, refl, subst}
 use mathlib.Core.Bool.{Bool, true, false, not, cond, ◌&&◌, ◌||◌}
 use Prim.Native.Nat.{ℕ, ◌+◌, ◌*◌, ◌^◌, ◌≤◌, ◌<◌}
-use native.Mathlib.Nat.{mul-le-mul}
 use native.Mathlib.Omega.{arith}
 use lib.Dec.{ltb, leb, eqb}
 use borrow.Author.Tests.{le-ltb, ltb-true, ltb-false, leb-true, leb-false, eqb-false, eqb-true, not-false}
@@ -202,7 +201,3 @@ by_answer (Err u) h = omega arith
 
 pub temperature_at_most : (field r : ℕ) → (temperature_or_missing (temperature_of field r)).0 ≤ last_hundredth
 temperature_at_most field r = by_answer (temperature_of field r) (within_range field r)
-
--- products of an accepted card's and an accepted sample's numbers fit 64 bits
-pub product_fits : (a b : ℕ) → a ≤ 10 ^ 12 → b ≤ 3600 → a * b < 2 ^ 64
-product_fits a b h g = omega (arith, mul-le-mul h g)

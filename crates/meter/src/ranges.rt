@@ -1,10 +1,7 @@
 // The rows of a sample's ranges, by its meter's card and edition (document 01, the row "Sample"; document 02, requests 2 and 5).
-ghost use Rattle.std.specs.Prelude.{◌≡◌, not, ◌&&◌};
+ghost use Rattle.std.specs.Prelude.{◌≡◌};
 ghost use Rattle.quantity.specs.Refusals.{first_of};
-ghost use Rattle.quantity.specs.Units.{is_colder};
-ghost use Rattle.meter.specs.Edition.{keeps_seconds, counts_cold};
-ghost use Rattle.meter.specs.Sample.{ts, tr};
-ghost use Rattle.meter.specs.Step.{outside_theta, is_above_qs, range_rows};
+ghost use Rattle.meter.specs.Step.{outside_theta, range_rows};
 
 use crate::edition::{counts_cold, keeps_seconds};
 use crate::measurement::Measurement;

@@ -18,8 +18,8 @@ pub enum Unmeasured {
     Outside(End),
 }
 
-// The temperature of a reading in 0.0001 ohm, of a sensor that a card's field names. Any numbers are answered, a rule of the project; by itself the refusal is that
-// of the first row of "Temperature alone" that applies.
+// The temperature of a reading in 0.0001 ohm, of a sensor that a card's field names. Any numbers are answered, a rule of the project; by itself
+// the refusal is that of the first row of "Temperature alone" that applies.
 #[tactic(auto, using(crate::proofs::Answer::by_itself), unfolding(crate::specs::Temperature::temperature_of))]
 pub fn temperature(field: u64, reading: u64) -> Result<Temperature, Unmeasured>
     ensures value { result ≡ temperature_of field reading }

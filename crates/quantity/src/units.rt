@@ -1,6 +1,6 @@
 // The two units of document 01, "Temperature". Each is a type of its own, so that the checker refuses one in the
 // other's place. Any content can stand in either: the operations that take them refuse what is out of range.
-ghost use Rattle.std.specs.Prelude.{◌≡◌, refl, ℕ, ◌*◌, Bool, ◌||◌};
+ghost use Rattle.std.specs.Prelude.{◌≡◌, ℕ, ◌*◌, Bool, ◌||◌};
 ghost use Rattle.std.specs.Ordering.{partial_lt};
 ghost use Rattle.std.proofs.Common.{rules};
 ghost use Rattle.quantity.specs.Units.{is_colder, is_smaller, distance_of};

@@ -1,5 +1,4 @@
 // The kinds that a test point names by number: its part, its class and its stage. Each is read once, and a number that names none is refused.
-ghost use Rattle.std.specs.Prelude.{◌≡◌};
 ghost use Rattle.quantity.specs.declared.refusal.Refusal.TheVariants as R;
 ghost use Rattle.verdict.specs.Inside.Kinds.{part_number, class_number, stage_number, Reads};
 
