@@ -30,7 +30,7 @@ use Rattle.meter.specs.declared.register.Register.TheVariants.{Heat, Cold}
 use Rattle.meter.specs.declared.state.Meter.{Meter}
 use Rattle.meter.specs.declared.sample.Sample.{Sample}
 use Rattle.meter.specs.declared.stepping.Stepped.{Stepped}
-use Rattle.meter.proofs.Answers.{step_answers}
+use Rattle.meter.proofs.Leaves.{step_leaves}
 use Rattle.meter.proofs.Theorem.{stays_after, fresh_made, fresh_zeros}
 use Rattle.meter.proofs.Along.{within_after, fresh_within, by_state}
 
@@ -138,7 +138,7 @@ agree f P h [] m p w = (refl, refl)
 agree f P h (s ∷ ss) m p w =
     let a = step_of m s in
     let one = h m s p w.0 in
-    let stays = stays_after m s a (step_answers m s) in
+    let stays = stays_after m s a (step_leaves m s) in
     let others = subst (λ (c : Card). AllTakenAlike a.meter.edition f c ss) (sym stays.card) (subst (λ (e : ℕ). AllTakenAlike e f m.card ss) (sym stays.edition) w.1) in
     let rest = agree f P h ss a.meter one.1 others in
     subst (λ (b : Stepped). (mark_of s a ∷ marks_of a.meter ss ≡ mark_of s b ∷ marks_of b.meter ss) × (with_edition f (last_of a.meter ss) ≡ last_of b.meter ss))
@@ -160,7 +160,7 @@ within_alike f m s g = record {
 still_within : (f : ℕ) (m : Meter) (s : Sample) → BothWithin f m → (step_of (with_edition f m) s).meter ≡ with_edition f (step_of m s).meter →
     BothWithin f (step_of m s).meter
 still_within f m s g same =
-    let after : (x : Meter) → WithinLimits x → WithinLimits (step_of x s).meter = λ x. within_after x s (step_of x s) (step_answers x s) in
+    let after : (x : Meter) → WithinLimits x → WithinLimits (step_of x s).meter = λ x. within_after x s (step_of x s) (step_leaves x s) in
     (after m g.0, subst WithinLimits same (after (with_edition f m) g.1))
 
 both_within : (f : ℕ) → StepsAlike f (BothWithin f)

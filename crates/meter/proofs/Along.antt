@@ -1,10 +1,10 @@
 -- What stays true along the calls from a fresh meter.
 -- Assumes nothing.
 use mathlib.Core.Path.{◌≡◌, refl, sym, ◌∙◌, ap, subst}
-use mathlib.Core.List.{List}
+use mathlib.Core.List.{List, [], ◌∷◌}
 use mathlib.Core.Bool.{Bool, true, false, cond}
 use mathlib.Core.Logic.{◌⊎◌, inl, inr}
-use Prim.Native.Nat.{ℕ, ◌+◌, ◌≤◌, ◌<◌}
+use Prim.Native.Nat.{ℕ, ◌+◌, ◌≤◌}
 use native.Mathlib.Omega.{arith}
 use lib.Dec.{eqb}
 use borrow.Author.Tests.{le-ltb, eq-eqb, ne_eqb}
@@ -14,7 +14,7 @@ use Rattle.std.specs.Prelude.{Result, Ok, Err}
 use Rattle.quantity.specs.declared.refusal.Refusal.{Refusal}
 use Rattle.quantity.specs.declared.refusal.Refusal.TheVariants.{CountsFull}
 use Rattle.std.specs.Result.{result_and}
-use Rattle.quantity.proofs.Rows.{none_applies, none_of_parts, parts, of_some_row}
+use Rattle.quantity.proofs.Rows.{parts, of_some_row}
 use Rattle.meter.specs.Card.{card_rows}
 use Rattle.meter.specs.State.{fresh_of, state_rows, largest_register, largest_volume, largest_count}
 use Rattle.meter.specs.Step.{card_and_state_rows, count_rows, reading_rows, range_rows, limit_rows, sample_rows, step_of}
@@ -22,7 +22,7 @@ use Rattle.quantity.specs.Fractions.{floored}
 use Rattle.meter.specs.Sample.{sample_heat}
 use Rattle.meter.specs.Register.{own_register, added_to}
 use Rattle.meter.specs.Sum.{Mark}
-use Rattle.meter.specs.Calls.{Calls, none, step}
+use Rattle.meter.specs.Run.{Asking, asks_step, sample_asked, answer_of, last_asked, asked_of}
 use Rattle.meter.specs.declared.card.Card.{Card}
 use Rattle.meter.specs.declared.register.Register.{Register}
 use Rattle.meter.specs.declared.register.Register.TheVariants.{Heat, Cold}
@@ -33,15 +33,13 @@ use Rattle.meter.proofs.Accepted.{accepted_state, fits_edition, accepted_counts,
 use Rattle.meter.proofs.Registers.{unchanged, empty, room_in_each}
 use Rattle.meter.specs.Answers.{Answers, accepts, refuses_sample, refuses_before}
 use Rattle.meter.specs.Theorems.{WithinLimits, StaysWithinLimits, LackedZero, LackedStaysZero, NoOtherRefusal, counts_of, counted_of, Counted}
-use Rattle.meter.proofs.Answers.{answered}
+use Rattle.meter.proofs.Answers.{step_answers}
+use Rattle.meter.proofs.Existence.{only_last, by_askings}
+use Rattle.meter.proofs.Leaves.{Leaves, adds, counts, keeps, leaves}
 use Rattle.meter.proofs.Theorem.{raised, fresh_zeros, edition_along}
 
--- the counts have room where no row of card or state refuses
-pub room : (m : Meter) → first_of (card_and_state_rows m) ≡ Ok tt → m.accepted + m.refused < largest_count
-room m e = (accepted_state m (none_of_parts (card_rows m.card) (state_rows m) (none_applies (card_and_state_rows m) e)).1).counts
-
-pub within_after : (m : Meter) (s : Sample) (a : Stepped) → Answers m s a → WithinLimits m → WithinLimits a.meter
-within_after m s a (accepts h) g =
+pub within_after : (m : Meter) (s : Sample) (a : Stepped) → Leaves m s a → WithinLimits m → WithinLimits a.meter
+within_after m s a (adds h) g =
     let limits = accepted_limits m s h.limit in
     let own = own_register m.card s in
     let heat = floored (sample_heat m.card s) in
@@ -63,8 +61,7 @@ within_after m s a (accepts h) g =
             omega (arith, g.lacked.cold k, None-more);
       };
     }
-within_after m s a (refuses_sample n e f) g =
-    let counts = room m e in
+within_after m s a (counts n h) g =
     record {
       card = g.card;
       registers = λ r. subst (λ (x : ℕ). x ≤ largest_register) (sym (unchanged r m)) (g.registers r);
@@ -74,11 +71,11 @@ within_after m s a (refuses_sample n e f) g =
       kept = g.kept;
       lacked = record { seconds = g.lacked.seconds; cold = g.lacked.cold };
     }
-within_after m s a (refuses_before n e) g = g
+within_after m s a (keeps n) g = g
 
-pub within_along : {m z : Meter} {ks : List Mark} → WithinLimits m → Calls m ks z → WithinLimits z
-within_along g none = g
-within_along g (step {m = m} s a p rest) = within_along (within_after m s a (answered m s a p) g) rest
+within_along : (m : Meter) (qs : List Asking) → WithinLimits m → WithinLimits (last_asked m qs)
+within_along m [] g = g
+within_along m (q ∷ qs) g = within_along (answer_of m q).meter qs (within_after m (sample_asked q) (answer_of m q) (leaves m q) g)
 
 -- a fresh meter is within its limits
 pub fresh_within : (c : Card) (e : ℕ) (m : Meter) → fresh_of c e ≡ Ok m → WithinLimits m
@@ -97,7 +94,7 @@ fresh_within c e m h =
 
 -- registers, volume and kept seconds never pass their limits from a fresh meter
 pub stays_within_limits : StaysWithinLimits
-stays_within_limits c e m h ks z calls = within_along (fresh_within c e m h) calls
+stays_within_limits c e m h = by_askings m (λ (ks : List Mark) (z : Meter). WithinLimits z) (λ qs. within_along m qs (fresh_within c e m h))
 
 -- and what its edition lacks stays zero
 pub lacked_stays_zero : LackedStaysZero
@@ -157,22 +154,30 @@ by_answer m s a n (refuses_before k f) g e =
     inl (sym same ∙ only_21 m k g f)
 
 pub no_other_refusal : NoOtherRefusal
-no_other_refusal c e m h ks z calls s n f = by_answer z s (step_of z s) n (answered z s (step_of z s) refl) (stays_within_limits c e m h ks z calls) f
+no_other_refusal c e m h ks z calls s n f = by_answer z s (step_of z s) n (step_answers z s) (stays_within_limits c e m h ks z calls) f
 
-pub one_more_lem : (m : Meter) (s : Sample) (a : Stepped) → Answers m s a → WithinLimits m →
-    a.meter.accepted + a.meter.refused ≡ m.accepted + m.refused + counts_of a.outcome
+-- the two counts together
+abbrev both_counts : Meter → ℕ
+both_counts m = m.accepted + m.refused
+
+one_more_lem : (m : Meter) (s : Sample) (a : Stepped) → Answers m s a → WithinLimits m → both_counts a.meter ≡ both_counts m + counts_of a.outcome
 one_more_lem m s a (accepts h) g = omega arith
 one_more_lem m s a (refuses_sample n e f) g = simp (ne_eqb (number_of n) 21 (larger n (sample_number m s n f))) (omega arith)
 one_more_lem m s a (refuses_before n e) g = simp (eq-eqb (number_of n) 21 (number_21 n (only_21 m n g e))) (omega arith)
 
-counted_along : {m z : Meter} {ks : List Mark} → WithinLimits m → (calls : Calls m ks z) → z.accepted + z.refused ≡ m.accepted + m.refused + counted_of calls
-counted_along g none = omega arith
-counted_along g (step {m = m} s a p rest) =
-    let h = answered m s a p in
-    omega (arith, counted_along (within_after m s a h g) rest, one_more_lem m s a h g)
+-- so for each kind of call
+one_counted : (m : Meter) (q : Asking) → WithinLimits m → both_counts (answer_of m q).meter ≡ both_counts m + counts_of (answer_of m q).outcome
+one_counted m (asks_step s) g = one_more_lem m s (step_of m s) (step_answers m s) g
+
+counted_along : (m : Meter) (qs : List Asking) → WithinLimits m → both_counts (last_asked m qs) ≡ both_counts m + counted_of m qs
+counted_along m [] g = omega arith
+counted_along m (q ∷ qs) g =
+    let a = answer_of m q in
+    omega (arith, counted_along a.meter qs (within_after m (sample_asked q) a (leaves m q) g), one_counted m q g)
 
 -- accepted plus refused is the number of calls not refused by 21
 pub counted : Counted
 counted c e m h ks z calls =
     let f = fresh_zeros c e m h in
-    omega (arith, counted_along (fresh_within c e m h) calls, ap (λ (x : Meter). x.accepted + x.refused) f.meter)
+    let last = ap both_counts (only_last m ks z calls) in
+    omega (arith, last, counted_along m (asked_of calls) (fresh_within c e m h), ap both_counts f.meter)

@@ -1,6 +1,6 @@
 -- What the step's definition amounts to, for an accepted sample and for a refused one.
 -- Assumes nothing.
-use mathlib.Core.Path.{◌≡◌, refl, sym, ap, subst}
+use mathlib.Core.Path.{◌≡◌, refl, ap}
 use mathlib.Core.Bool.{true}
 use Rattle.quantity.specs.Refusals.{first_of, NoneApplies}
 use Rattle.std.specs.Prelude.{Result, Ok, Err}
@@ -35,9 +35,6 @@ by_card_and_state_lem m s (Err n) e = refuses_before n e
 pub step_answers : StepAnswers
 unfolding step_of
 step_answers m s = by_card_and_state_lem m s _ refl
-
-pub answered : (m : Meter) (s : Sample) (a : Stepped) → a ≡ step_of m s → Answers m s a
-answered m s a p = subst (λ (x : Stepped). Answers m s x) (sym p) (step_answers m s)
 
 -- a sample is accepted exactly when no row refuses it
 when_accepted : (m : Meter) (s : Sample) (a : Stepped) → Answers m s a → is_accepted a.outcome ≡ true → NoRowRefuses m s

@@ -1,6 +1,7 @@
 -- Laws and theorems about the meter.
 pub mod Heats
 pub mod Keeping
+pub mod Leaves
 pub mod Accepted
 pub mod Alike
 pub mod Along

@@ -27,9 +27,10 @@ use Rattle.meter.specs.State.{fresh_rows, fresh_of, fresh_answer, zeros}
 use Rattle.meter.specs.Sample.{volume_of, has_volume, ts, tr, sample_heat}
 use Rattle.meter.specs.Register.{register_of, own_register, is_same}
 use Rattle.meter.specs.Step.{added_by, accepting, step_of}
-use Rattle.meter.specs.Sum.{Mark, is_own, nothing, sum_from, allowance_from, WithinBounds}
-use Rattle.meter.specs.Calls.{Calls, none, step, mark_of}
-use Rattle.meter.specs.Answers.{NoRowRefuses, Answers, accepts, refuses_sample, refuses_before}
+use Rattle.meter.specs.Sum.{Mark, is_own, nothing, sum_from, allowance_from, sum_of, allowance_of, WithinBounds}
+use Rattle.meter.specs.Calls.{mark_of}
+use Rattle.meter.specs.Run.{Asking, sample_asked, answer_of, marks_asked, last_asked}
+use Rattle.meter.specs.Answers.{NoRowRefuses}
 use Rattle.meter.specs.Theorems.{RegisterBounds, FreshMade, FreshZeros, CardAlong, EditionAlong, SampleHeatIsFraction, Raises, OtherStays}
 use Rattle.meter.specs.declared.card.Card.{Card}
 use Rattle.meter.specs.declared.state.Meter.{Meter}
@@ -38,7 +39,9 @@ use Rattle.meter.specs.declared.register.Register.TheVariants.{Heat, Cold}
 use Rattle.meter.specs.declared.sample.Sample.{Sample}
 use Rattle.meter.specs.declared.stepping.Stepped.{Stepped}
 use Rattle.meter.proofs.Keeping.{HeatBounds, start, keep}
-use Rattle.meter.proofs.Answers.{answered, step_answers, not_refused, accepted_exactly}
+use Rattle.meter.proofs.Answers.{not_refused, accepted_exactly}
+use Rattle.meter.proofs.Existence.{by_askings}
+use Rattle.meter.proofs.Leaves.{Leaves, adds, counts, keeps, step_leaves, leaves}
 use Rattle.meter.proofs.Registers.{same, unchanged, empty}
 use Rattle.meter.proofs.Accepted.{accepted_card, accepted_pair, temperature_at_most}
 
@@ -86,13 +89,13 @@ taken true register n sum c s w b = keep _ _ _ _ _ w b
 taken false register n sum c s w b = subst (λ (x : ℕ). WithinBounds x n sum) (sym (add-zero register)) b
 
 -- and by any call
-one : (r : Register) (m : Meter) (s : Sample) (a : Stepped) (n : ℕ) (sum : Fraction) → Answers m s a → WithinBounds (register_of r m) n sum →
+one : (r : Register) (m : Meter) (s : Sample) (a : Stepped) (n : ℕ) (sum : Fraction) → Leaves m s a → WithinBounds (register_of r m) n sum →
     After (is_own r m.card (mark_of s a)) (register_of r a.meter) n sum m.card s
-one r m s a n sum (accepts h) b =
+one r m s a n sum (adds h) b =
     let own = is_same r (own_register m.card s) in
     subst (λ (x : ℕ). After own x n sum m.card s) (sym (raised r m s)) (taken own _ _ _ _ _ (heat_bounds m s h) b)
-one r m s a n sum (refuses_sample x e f) b = subst (λ (y : ℕ). WithinBounds y n sum) (sym (unchanged r m)) b
-one r m s a n sum (refuses_before x e) b = b
+one r m s a n sum (counts x h) b = subst (λ (y : ℕ). WithinBounds y n sum) (sym (unchanged r m)) b
+one r m s a n sum (keeps x) b = b
 
 -- card and edition stay the same
 pub record Stays (m z : Meter) : Type 0 where
@@ -100,32 +103,34 @@ pub record Stays (m z : Meter) : Type 0 where
   pub edition : z.edition ≡ m.edition
 
 -- by a call
-pub stays_after : (m : Meter) (s : Sample) (a : Stepped) → Answers m s a → Stays m a.meter
-stays_after m s a (accepts h) = record { card = refl; edition = refl }
-stays_after m s a (refuses_sample x e f) = record { card = refl; edition = refl }
-stays_after m s a (refuses_before x e) = record { card = refl; edition = refl }
+pub stays_after : (m : Meter) (s : Sample) (a : Stepped) → Leaves m s a → Stays m a.meter
+stays_after m s a (adds h) = record { card = refl; edition = refl }
+stays_after m s a (counts x h) = record { card = refl; edition = refl }
+stays_after m s a (keeps x) = record { card = refl; edition = refl }
 
-from : (r : Register) {m z : Meter} {ks : List Mark} (c : Card) (n : ℕ) (sum : Fraction) → m.card ≡ c → WithinBounds (register_of r m) n sum → Calls m ks z →
-    WithinBounds (register_of r z) (allowance_from r c n ks) (sum_from r c sum ks)
-from r c n sum e b none = b
-from r c n sum e b (step {m = m} s a p rest) =
-    let h = answered m s a p in
+from : (r : Register) (c : Card) (m : Meter) (n : ℕ) (sum : Fraction) (qs : List Asking) → m.card ≡ c → WithinBounds (register_of r m) n sum →
+    WithinBounds (register_of r (last_asked m qs)) (allowance_from r c n (marks_asked m qs)) (sum_from r c sum (marks_asked m qs))
+from r c m n sum [] e b = b
+from r c m n sum (q ∷ qs) e b =
+    let s = sample_asked q in
+    let a = answer_of m q in
+    let h = leaves m q in
     let after = subst (λ (x : Card). After (is_own r x (mark_of s a)) (register_of r a.meter) n sum x s) e (one r m s a n sum h b) in
-    from r c _ _ ((stays_after m s a h).card ∙ e) after rest
+    from r c a.meter _ _ qs ((stays_after m s a h).card ∙ e) after
 
 -- and so along the calls
-stays_along : {m z : Meter} {ks : List Mark} → Calls m ks z → Stays m z
-stays_along none = record { card = refl; edition = refl }
-stays_along (step {m = m} s a p rest) =
-    let one = stays_after m s a (answered m s a p) in
-    let others = stays_along rest in
+stays_along : (m : Meter) (qs : List Asking) → Stays m (last_asked m qs)
+stays_along m [] = record { card = refl; edition = refl }
+stays_along m (q ∷ qs) =
+    let one = stays_after m (sample_asked q) (answer_of m q) (leaves m q) in
+    let others = stays_along (answer_of m q).meter qs in
     record { card = others.card ∙ one.card; edition = others.edition ∙ one.edition }
 
 pub card_along : CardAlong
-card_along m ks z calls = (stays_along calls).card
+card_along m = by_askings m (λ (ks : List Mark) (z : Meter). z.card ≡ m.card) (λ qs. (stays_along m qs).card)
 
 pub edition_along : EditionAlong
-edition_along m ks z calls = (stays_along calls).edition
+edition_along m = by_askings m (λ (ks : List Mark) (z : Meter). z.edition ≡ m.edition) (λ qs. (stays_along m qs).edition)
 
 -- only the outcome of no refusal makes a meter
 by_rows : (x m : Meter) (o : Result Unit Refusal) → fresh_answer o x ≡ Ok m → (o ≡ Ok tt) × (x ≡ m)
@@ -150,8 +155,10 @@ fresh_made c e h known =
 pub register : RegisterBounds
 register c e m h ks z calls r =
     let m_is = (fresh_zeros c e m h).meter in
-    let begun = subst (λ (x : ℕ). WithinBounds x 0 nothing) (sym (empty r c e)) start in
-    from r c 0 nothing (sym (ap (λ (x : Meter). x.card) m_is)) (subst (λ (x : Meter). WithinBounds (register_of r x) 0 nothing) m_is begun) calls
+    let begun = subst (λ (x : Meter). WithinBounds (register_of r x) 0 nothing) m_is (subst (λ (x : ℕ). WithinBounds x 0 nothing) (sym (empty r c e)) start) in
+    by_askings m (λ (ks : List Mark) (z : Meter). WithinBounds (register_of r z) (allowance_of r c ks) (sum_of r c ks))
+    (λ qs. from r c m 0 nothing qs (sym (ap (λ (x : Meter). x.card) m_is)) begun)
+    ks z calls
 
 -- an accepted sample with a volume raises its own register
 pub raises : Raises
@@ -167,11 +174,11 @@ raises m s e v =
     (subst (λ (x : ℕ). register_of own m < x) (sym (raised own m s)) (omega (arith, at_least_lem, all)))
 
 -- and no sample changes the other
-other_after : (m : Meter) (s : Sample) (a : Stepped) (other : Register) → Answers m s a → is_same other (own_register m.card s) ≡ false →
+other_after : (m : Meter) (s : Sample) (a : Stepped) (other : Register) → Leaves m s a → is_same other (own_register m.card s) ≡ false →
     register_of other a.meter ≡ register_of other m
-other_after m s a other (accepts h) e = raised other m s ∙ ap (λ (b : Bool). register_of other m + cond b (floored (sample_heat m.card s)) 0) e ∙ add-zero _
-other_after m s a other (refuses_sample n f g) e = unchanged other m
-other_after m s a other (refuses_before n f) e = refl
+other_after m s a other (adds h) e = raised other m s ∙ ap (λ (b : Bool). register_of other m + cond b (floored (sample_heat m.card s)) 0) e ∙ add-zero _
+other_after m s a other (counts x h) e = unchanged other m
+other_after m s a other (keeps x) e = refl
 
 pub other_stays : OtherStays
-other_stays m s other e = other_after m s (step_of m s) other (step_answers m s) e
+other_stays m s other e = other_after m s (step_of m s) other (step_leaves m s) e

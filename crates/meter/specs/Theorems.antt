@@ -1,6 +1,6 @@
 -- What is proved of the meter, statement by statement, demand 3 first. Each is proved in proofs/ under its name in small letters (`register` is
 -- `RegisterBounds`).
-use Rattle.std.specs.Prelude.{◌≡◌, List, [], ◌∷◌, ◌++◌, true, false, cond, ◌↔◌, ◌⊎◌, ℕ, ◌+◌, ◌*◌, ◌≤◌, ◌<◌, eqb, Result, Ok, Err}
+use Rattle.std.specs.Prelude.{◌≡◌, List, [], ◌∷◌, ◌++◌, map, true, false, cond, ◌↔◌, ◌⊎◌, ℕ, ◌+◌, ◌*◌, ◌≤◌, ◌<◌, eqb, Result, Ok, Err}
 use Rattle.quantity.specs.Fractions.{IsFraction}
 use Rattle.quantity.specs.Units.{is_colder}
 use Rattle.quantity.specs.Refusals.{number_of, first_of, NoneApplies}
@@ -14,8 +14,8 @@ use Rattle.meter.specs.Sample.{has_volume, supply_of, return_of, ts, tr, sample_
 use Rattle.meter.specs.Register.{register_of, own_register, is_same}
 use Rattle.meter.specs.Step.{count_rows, reading_rows, is_above_qs, range_rows, kept_of, step_of}
 use Rattle.meter.specs.Sum.{Mark, is_own, nothing, sum_of, allowance_of, WithinBounds}
-use Rattle.meter.specs.Calls.{Calls, none, step, is_accepted}
-use Rattle.meter.specs.Run.{samples_of, marks_of, last_of}
+use Rattle.meter.specs.Calls.{Calls, is_accepted}
+use Rattle.meter.specs.Run.{Asking, sample_asked, answer_of, marks_asked, last_asked, asked_of, marks_of, last_of}
 use Rattle.meter.specs.Answers.{NoRowRefuses, Answers}
 use Rattle.meter.specs.declared.card.Card.{Card}
 use Rattle.meter.specs.declared.state.Meter.{Meter}
@@ -24,7 +24,7 @@ use Rattle.meter.specs.declared.register.Register.TheVariants.{Heat}
 use Rattle.meter.specs.declared.sample.Sample.{Sample}
 use Rattle.meter.specs.declared.stepping.Stepped.{Stepped}
 
--- Demand 3, the register: for every accepted card, every edition and every list of step calls from the fresh meter, refused ones included, and
+-- Demand 3, the register: for every accepted card, every edition and every list of calls from the fresh meter, refused ones included, and
 -- for each register: with the sum of its own samples' heat in exact fractions, the register is not above the sum, not below it by more than 1 mJ
 -- for each own sample with a volume, and not below it by more than a two-thousandth of the sum. It "holds for fresh meters of either edition,
 -- with one argument for both" (document 02, request 2); "each register is compared with the exact sum of its own samples, and each shortfall
@@ -49,18 +49,19 @@ OtherNothing =
     (r other : Register) (c : Card) (ks : List Mark) → is_same other r ≡ false → AllOwn r c ks →
     (sum_of other c ks ≡ nothing) × (allowance_of other c ks ≡ 0)
 
--- Demand 3 speaks of every list of samples: such calls exist, leave marks of these samples, and their marks and their last meter are the only ones.
+-- Demand 3 speaks of every list of askings: calls exist that ask just these, they leave marks of these samples,
 abbrev pub CallsExist : Type 0
-CallsExist = (m : Meter) (ss : List Sample) → Calls m (marks_of m ss) (last_of m ss)
+CallsExist = (m : Meter) (qs : List Asking) → (calls : Calls m (marks_asked m qs) (last_asked m qs)) × (asked_of calls ≡ qs)
 
 abbrev pub Given : Type 0
-Given = (m : Meter) (ss : List Sample) → samples_of (marks_of m ss) ≡ ss
+Given = (m : Meter) (qs : List Asking) → map (λ (k : Mark). k.sample) (marks_asked m qs) ≡ map sample_asked qs
 
+-- and the marks and the last meter of any calls are the only ones that what was asked in them can lead to
 abbrev pub OnlyMarks : Type 0
-OnlyMarks = (m : Meter) (ks : List Mark) (z : Meter) → Calls m ks z → ks ≡ marks_of m (samples_of ks)
+OnlyMarks = (m : Meter) (ks : List Mark) (z : Meter) (calls : Calls m ks z) → ks ≡ marks_asked m (asked_of calls)
 
 abbrev pub OnlyLast : Type 0
-OnlyLast = (m : Meter) (ks : List Mark) (z : Meter) → Calls m ks z → z ≡ last_of m (samples_of ks)
+OnlyLast = (m : Meter) (ks : List Mark) (z : Meter) (calls : Calls m ks z) → z ≡ last_asked m (asked_of calls)
 
 -- Every accepted card has a fresh meter in each edition, and a fresh meter is that of an accepted card and an edition, with zeros.
 abbrev pub FreshMade : Type 0
@@ -145,20 +146,20 @@ NoOtherRefusal =
     (c : Card) (e : ℕ) (m : Meter) → fresh_of c e ≡ Ok m → (ks : List Mark) (z : Meter) → Calls m ks z →
     (s : Sample) (r : Refusal) → (step_of z s).outcome ≡ Err r → (r ≡ CountsFull) ⊎ (30 ≤ number_of r)
 
--- how many of the calls were not refused by 21
+-- how many calls of a list of askings, from a meter on, are not refused by 21
 abbrev pub counts_of : Result Unit Refusal → ℕ
 counts_of (Ok u) = 1
 counts_of (Err r) = cond (eqb (number_of r) 21) 0 1
 
-abbrev pub counted_of : {m z : Meter} {ks : List Mark} → Calls m ks z → ℕ
-counted_of none = 0
-counted_of (step s a p rest) = counts_of a.outcome + counted_of rest
+abbrev pub counted_of : Meter → List Asking → ℕ
+counted_of m [] = 0
+counted_of m (q ∷ qs) = counts_of (answer_of m q).outcome + counted_of (answer_of m q).meter qs
 
 -- accepted plus refused is that number
 abbrev pub Counted : Type 0
 Counted =
     (c : Card) (e : ℕ) (m : Meter) → fresh_of c e ≡ Ok m → (ks : List Mark) (z : Meter) (calls : Calls m ks z) →
-    z.accepted + z.refused ≡ counted_of calls
+    z.accepted + z.refused ≡ counted_of m (asked_of calls)
 
 -- an edition that keeps no seconds accepts no sample above q_s, whatever the meter
 abbrev pub AcceptedWithinQs : Type 0
