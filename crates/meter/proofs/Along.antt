@@ -12,17 +12,18 @@ use Rattle.quantity.specs.Refusals.{number_of, first_of}
 use Rattle.quantity.specs.Range.{end_refusal}
 use Rattle.std.specs.Prelude.{Result, Ok, Err}
 use Rattle.quantity.specs.declared.refusal.Refusal.{Refusal}
-use Rattle.quantity.specs.declared.refusal.Refusal.TheVariants.{CountsFull}
+use Rattle.quantity.specs.declared.refusal.Refusal.TheVariants.{CountsFull, Profile}
 use Rattle.std.specs.Result.{result_and}
 use Rattle.quantity.proofs.Rows.{parts, of_some_row}
 use Rattle.meter.specs.Card.{card_rows}
 use Rattle.meter.specs.State.{fresh_of, state_rows, largest_register, largest_volume, largest_count}
+use Rattle.meter.specs.Profile.{profile_rows, by_profile, in_quarter_of}
 use Rattle.meter.specs.Step.{card_and_state_rows, count_rows, reading_rows, range_rows, limit_rows, sample_rows, step_of}
 use Rattle.quantity.specs.Fractions.{floored}
 use Rattle.meter.specs.Sample.{sample_heat}
 use Rattle.meter.specs.Register.{own_register, added_to}
 use Rattle.meter.specs.Sum.{Mark}
-use Rattle.meter.specs.Run.{Asking, asks_step, sample_asked, answer_of, last_asked, asked_of}
+use Rattle.meter.specs.Run.{Asking, asks_step, asks_in_quarter, sample_asked, answer_of, last_asked, asked_of}
 use Rattle.meter.specs.declared.card.Card.{Card}
 use Rattle.meter.specs.declared.register.Register.{Register}
 use Rattle.meter.specs.declared.register.Register.TheVariants.{Heat, Cold}
@@ -36,6 +37,7 @@ use Rattle.meter.specs.Theorems.{WithinLimits, StaysWithinLimits, LackedZero, La
 use Rattle.meter.proofs.Answers.{step_answers}
 use Rattle.meter.proofs.Existence.{only_last, by_askings}
 use Rattle.meter.proofs.Leaves.{Leaves, adds, counts, keeps, leaves}
+use Rattle.meter.proofs.Quarters.{only_73}
 use Rattle.meter.proofs.Theorem.{raised, fresh_zeros, edition_along}
 
 pub within_after : (m : Meter) (s : Sample) (a : Stepped) → Leaves m s a → WithinLimits m → WithinLimits a.meter
@@ -143,6 +145,29 @@ pub number_21 : (r : Refusal) → r ≡ CountsFull → number_of r ≡ 21
 unfolding number_of
 number_21 r e = rw e refl
 
+-- the largest are 70 and 71
+sample_number_most : (m : Meter) (s : Sample) (r : Refusal) → first_of (sample_rows m s) ≡ Err r → number_of r ≤ 71
+unfolding count_rows reading_rows range_rows limit_rows end_refusal number_of
+sample_number_most m s r e = of_some_row (λ (k : Refusal). number_of k ≤ 71) (sample_rows m s) r (omega arith) e
+
+smaller : (r : Refusal) → number_of r ≤ 71 → number_of r ≡ 73 → ⊥
+smaller r h e = omega arith
+
+-- 73 is the number of the profile
+number_73 : (r : Refusal) → r ≡ Profile → number_of r ≡ 73
+unfolding number_of
+number_73 r e = rw e refl
+
+-- so the step never answers it
+not_73 : (m : Meter) (s : Sample) (a : Stepped) → Answers m s a → a.outcome ≡ Err Profile → ⊥
+unfolding card_rows state_rows number_of
+not_73 m s a (accepts h) e = absurd cc
+not_73 m s a (refuses_sample r f g) e = smaller r (sample_number_most m s r g) (number_73 r cc)
+not_73 m s a (refuses_before r f) e = smaller r (of_some_row (λ (k : Refusal). number_of k ≤ 71) (card_and_state_rows m) r (omega arith) f) (number_73 r cc)
+
+pub step_not_73 : (m : Meter) (s : Sample) → (step_of m s).outcome ≡ Err Profile → ⊥
+step_not_73 m s = not_73 m s (step_of m s) (step_answers m s)
+
 -- So after any calls from a fresh meter the step refuses with 21 or with a number of the sample's rows.
 by_answer : (m : Meter) (s : Sample) (a : Stepped) (r : Refusal) → Answers m s a → WithinLimits m → a.outcome ≡ Err r → (r ≡ CountsFull) ⊎ (30 ≤ number_of r)
 by_answer m s a n (accepts h) g e = absurd cc
@@ -162,12 +187,29 @@ both_counts m = m.accepted + m.refused
 
 one_more_lem : (m : Meter) (s : Sample) (a : Stepped) → Answers m s a → WithinLimits m → both_counts a.meter ≡ both_counts m + counts_of a.outcome
 one_more_lem m s a (accepts h) g = omega arith
-one_more_lem m s a (refuses_sample n e f) g = simp (ne_eqb (number_of n) 21 (larger n (sample_number m s n f))) (omega arith)
+one_more_lem m s a (refuses_sample n e f) g = 
+    simp (ne_eqb (number_of n) 21 (larger n (sample_number m s n f)), ne_eqb (number_of n) 73 (smaller n (sample_number_most m s n f))) (omega arith)
 one_more_lem m s a (refuses_before n e) g = simp (eq-eqb (number_of n) 21 (number_21 n (only_21 m n g e))) (omega arith)
+
+none_more : (n : ℕ) → n ≡ n + counts_of (Err Profile)
+unfolding number_of
+none_more n = omega arith
+
+by_profile_lem : (m : Meter) (cells : List ℕ) (s : Sample) (index : ℕ) (o : Result Unit Refusal) → first_of (profile_rows cells index) ≡ o → WithinLimits m →
+    both_counts (by_profile m cells s index o).stepped.meter ≡ both_counts m + counts_of (by_profile m cells s index o).stepped.outcome
+by_profile_lem m cells s index (Ok u) e g = one_more_lem m s (step_of m s) (step_answers m s) g
+by_profile_lem m cells s index (Err r) e g =
+    subst (λ (q : Refusal). both_counts m ≡ both_counts m + counts_of (Err q)) (sym (only_73 cells index r e)) (none_more (both_counts m))
+
+in_quarter_counted : (m : Meter) (cells : List ℕ) (s : Sample) (index : ℕ) → WithinLimits m →
+    both_counts (in_quarter_of m cells s index).stepped.meter ≡ both_counts m + counts_of (in_quarter_of m cells s index).stepped.outcome
+unfolding in_quarter_of
+in_quarter_counted m cells s index g = by_profile_lem m cells s index (first_of (profile_rows cells index)) refl g
 
 -- so for each kind of call
 one_counted : (m : Meter) (q : Asking) → WithinLimits m → both_counts (answer_of m q).meter ≡ both_counts m + counts_of (answer_of m q).outcome
 one_counted m (asks_step s) g = one_more_lem m s (step_of m s) (step_answers m s) g
+one_counted m (asks_in_quarter cells s index) g = in_quarter_counted m cells s index g
 
 counted_along : (m : Meter) (qs : List Asking) → WithinLimits m → both_counts (last_asked m qs) ≡ both_counts m + counted_of m qs
 counted_along m [] g = omega arith
@@ -175,7 +217,7 @@ counted_along m (q ∷ qs) g =
     let a = answer_of m q in
     omega (arith, counted_along a.meter qs (within_after m (sample_asked q) a (leaves m q) g), one_counted m q g)
 
--- accepted plus refused is the number of calls not refused by 21
+-- accepted plus refused is the number of calls refused neither by 21 nor by 73
 pub counted : Counted
 counted c e m h ks z calls =
     let f = fresh_zeros c e m h in

@@ -1,15 +1,17 @@
 -- What a call leaves behind, whichever function it is of: all that the laws along the calls rest on.
 -- Assumes nothing.
 use mathlib.Core.Path.{◌≡◌}
-use Prim.Native.Nat.{◌+◌, ◌<◌}
+use mathlib.Core.List.{List}
+use Prim.Native.Nat.{ℕ, ◌+◌, ◌<◌}
 use Rattle.quantity.specs.Refusals.{first_of}
-use Rattle.std.specs.Prelude.{Ok, Err}
+use Rattle.std.specs.Prelude.{Result, Ok, Err}
 use Rattle.quantity.specs.declared.refusal.Refusal.{Refusal}
 use Rattle.quantity.proofs.Rows.{none_applies, none_of_parts}
 use Rattle.meter.specs.Card.{card_rows}
 use Rattle.meter.specs.State.{state_rows, largest_count}
 use Rattle.meter.specs.Step.{accepting, refusing, card_and_state_rows, step_of}
-use Rattle.meter.specs.Run.{Asking, asks_step, sample_asked, answer_of}
+use Rattle.meter.specs.Profile.{profile_rows, by_profile, in_quarter_of}
+use Rattle.meter.specs.Run.{Asking, asks_step, asks_in_quarter, sample_asked, answer_of}
 use Rattle.meter.specs.Answers.{NoRowRefuses, Answers, accepts, refuses_sample, refuses_before}
 use Rattle.meter.specs.declared.state.Meter.{Meter}
 use Rattle.meter.specs.declared.sample.Sample.{Sample}
@@ -35,6 +37,15 @@ by_answer m s a (refuses_before n e) = keeps n
 pub step_leaves : (m : Meter) (s : Sample) → Leaves m s (step_of m s)
 step_leaves m s = by_answer m s (step_of m s) (step_answers m s)
 
+by_profile_lem : (m : Meter) (cells : List ℕ) (s : Sample) (index : ℕ) (o : Result Unit Refusal) → Leaves m s (by_profile m cells s index o).stepped
+by_profile_lem m cells s index (Ok u) = step_leaves m s
+by_profile_lem m cells s index (Err n) = keeps n
+
+in_quarter_leaves : (m : Meter) (cells : List ℕ) (s : Sample) (index : ℕ) → Leaves m s (in_quarter_of m cells s index).stepped
+unfolding in_quarter_of
+in_quarter_leaves m cells s index = by_profile_lem m cells s index (first_of (profile_rows cells index))
+
 -- so does each kind of call
 pub leaves : (m : Meter) (q : Asking) → Leaves m (sample_asked q) (answer_of m q)
 leaves m (asks_step s) = step_leaves m s
+leaves m (asks_in_quarter cells s index) = in_quarter_leaves m cells s index

@@ -6,11 +6,14 @@ pub mod Accepted
 pub mod Alike
 pub mod Along
 pub mod Answers
+pub mod Cells
 pub mod Counts
+pub mod Day
 pub mod Editions
 pub mod Elements
 pub mod Existence
 pub mod Own
+pub mod Quarters
 pub mod Registers
 pub mod Stages
 pub mod Theorem

@@ -1,2 +1,3 @@
 -- What only functions inside this crate, and the proofs of them, cite. None of it is part of what a public operation means.
 pub mod Stages
+pub mod Quarters

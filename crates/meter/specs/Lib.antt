@@ -5,6 +5,8 @@ pub mod State
 pub mod Sample
 pub mod Register
 pub mod Step
+pub mod Profile
+pub mod Day
 pub mod Sum
 pub mod Calls
 pub mod Run

@@ -1,18 +1,20 @@
 -- What is proved of the meter, statement by statement, demand 3 first. Each is proved in proofs/ under its name in small letters (`register` is
 -- `RegisterBounds`).
-use Rattle.std.specs.Prelude.{◌≡◌, List, [], ◌∷◌, ◌++◌, map, true, false, cond, ◌↔◌, ◌⊎◌, ℕ, ◌+◌, ◌*◌, ◌≤◌, ◌<◌, eqb, Result, Ok, Err}
-use Rattle.quantity.specs.Fractions.{IsFraction}
+use Rattle.std.specs.Prelude.{◌≡◌, List, [], ◌∷◌, ◌++◌, map, true, false, cond, ◌||◌, ◌↔◌, ◌⊎◌, ℕ, ◌+◌, ◌*◌, ◌≤◌, ◌<◌, eqb, length, Result, Ok, Err}
+use Rattle.quantity.specs.Fractions.{IsFraction, floored}
 use Rattle.quantity.specs.Units.{is_colder}
 use Rattle.quantity.specs.Refusals.{number_of, first_of, NoneApplies}
 use Rattle.quantity.specs.declared.units.Temperature.{Temperature}
 use Rattle.quantity.specs.declared.refusal.Refusal.{Refusal}
-use Rattle.quantity.specs.declared.refusal.Refusal.TheVariants.{CountsFull}
+use Rattle.quantity.specs.declared.refusal.Refusal.TheVariants.{CountsFull, Profile}
 use Rattle.meter.specs.Edition.{is_other_edition, keeps_seconds, counts_cold}
 use Rattle.meter.specs.Card.{card_rows}
 use Rattle.meter.specs.State.{fresh_of, zeros, largest_register, largest_volume, largest_count, most_seconds}
 use Rattle.meter.specs.Sample.{has_volume, supply_of, return_of, ts, tr, sample_heat}
 use Rattle.meter.specs.Register.{register_of, own_register, is_same}
 use Rattle.meter.specs.Step.{count_rows, reading_rows, is_above_qs, range_rows, kept_of, step_of}
+use Rattle.meter.specs.Profile.{quarters, zero_cells, cell_at, in_quarter_of}
+use Rattle.meter.specs.Day.{InQuarter, DayCalls, day_of, together}
 use Rattle.meter.specs.Sum.{Mark, is_own, nothing, sum_of, allowance_of, WithinBounds}
 use Rattle.meter.specs.Calls.{Calls, is_accepted}
 use Rattle.meter.specs.Run.{Asking, sample_asked, answer_of, marks_asked, last_asked, asked_of, marks_of, last_of}
@@ -28,7 +30,8 @@ use Rattle.meter.specs.declared.stepping.Stepped.{Stepped}
 -- for each register: with the sum of its own samples' heat in exact fractions, the register is not above the sum, not below it by more than 1 mJ
 -- for each own sample with a volume, and not below it by more than a two-thousandth of the sum. It "holds for fresh meters of either edition,
 -- with one argument for both" (document 02, request 2); "each register is compared with the exact sum of its own samples, and each shortfall
--- has its own two bounds, the millijoules counting its own samples only" (request 5).
+-- has its own two bounds, the millijoules counting its own samples only" (request 5). A call of the list is one of the step or one with a quarter's
+-- index (request 7).
 abbrev pub RegisterBounds : Type 0
 RegisterBounds =
     (c : Card) (e : ℕ) (m : Meter) → fresh_of c e ≡ Ok m → (ks : List Mark) (z : Meter) → Calls m ks z → (r : Register) →
@@ -146,10 +149,10 @@ NoOtherRefusal =
     (c : Card) (e : ℕ) (m : Meter) → fresh_of c e ≡ Ok m → (ks : List Mark) (z : Meter) → Calls m ks z →
     (s : Sample) (r : Refusal) → (step_of z s).outcome ≡ Err r → (r ≡ CountsFull) ⊎ (30 ≤ number_of r)
 
--- how many calls of a list of askings, from a meter on, are not refused by 21
+-- how many calls of a list of askings, from a meter on, are refused neither by 21 nor by 73
 abbrev pub counts_of : Result Unit Refusal → ℕ
 counts_of (Ok u) = 1
-counts_of (Err r) = cond (eqb (number_of r) 21) 0 1
+counts_of (Err r) = cond (eqb (number_of r) 21 || eqb (number_of r) 73) 0 1
 
 abbrev pub counted_of : Meter → List Asking → ℕ
 counted_of m [] = 0
@@ -242,3 +245,46 @@ abbrev pub SameMarksAgree : Type 0
 SameMarksAgree =
     (c : Card) (e f : ℕ) (m n : Meter) → fresh_of c e ≡ Ok m → fresh_of c f ≡ Ok n → (ss : List Sample) →
     marks_of m ss ≡ marks_of n ss → with_edition f (last_of m ss) ≡ last_of n ss
+
+-- The day profile, document 02, request 7: "For every list of such calls from zero cells and any meter, each given the meter and cells that the one
+-- before it returned, with nothing else writing them, the cells together equal the growth of the heat register since the start": they and the
+-- start's register are the end's.
+abbrev pub CellsTogether : Type 0
+CellsTogether = (m z : Meter) (qs : List InQuarter) (cells : List ℕ) → DayCalls m zero_cells qs z cells → together cells + m.register ≡ z.register
+
+-- along such calls no cell passes 10^18−1
+abbrev pub CellsWithinLimit : Type 0
+CellsWithinLimit = (m z : Meter) (qs : List InQuarter) (cells : List ℕ) → DayCalls m zero_cells qs z cells → (k : ℕ) → cell_at cells k ≤ largest_register
+
+-- so that the next one gets 73 exactly for an index above 95, and never for the cells
+abbrev pub IndexAlone : Type 0
+IndexAlone =
+    (m z : Meter) (qs : List InQuarter) (cells : List ℕ) → DayCalls m zero_cells qs z cells → (s : Sample) (i : ℕ) →
+    ((in_quarter_of z cells s i).stepped.outcome ≡ Err Profile) ↔ (95 < i)
+
+-- such calls exist for every list of samples with their index, from any meter and any cells, and lead to one meter and to one profile only
+abbrev pub DayExists : Type 0
+DayExists = (m : Meter) (cells : List ℕ) (qs : List InQuarter) → DayCalls m cells qs (day_of m cells qs).0 (day_of m cells qs).1
+
+abbrev pub OnlyDay : Type 0
+OnlyDay = (m z : Meter) (cells last : List ℕ) (qs : List InQuarter) → DayCalls m cells qs z last → (z, last) ≡ day_of m cells qs
+
+-- and they stand in demand 3's list: calls of the same samples lead from the same meter to the same
+abbrev pub DayStands : Type 0
+DayStands =
+    (m z : Meter) (cells last : List ℕ) (qs : List InQuarter) → DayCalls m cells qs z last →
+    (ks : List Mark) × ((map (λ (k : Mark). k.sample) ks ≡ map (λ (q : InQuarter). q.sample) qs) × Calls m ks z)
+
+-- whatever a call with an index is given, a cell other than that of the index is as it was
+abbrev pub OtherCellsStay : Type 0
+OtherCellsStay =
+    (m : Meter) (cells : List ℕ) (s : Sample) (i k : ℕ) → (k ≡ i → ⊥) → cell_at (in_quarter_of m cells s i).cells k ≡ cell_at cells k
+
+-- and one accepted heat sample raises its cell, among any 96, by exactly what it raises the heat register
+abbrev pub CellAsRegister : Type 0
+CellAsRegister =
+    (m : Meter) (cells : List ℕ) (s : Sample) (i : ℕ) → length cells ≡ quarters →
+    let a = in_quarter_of m cells s i in
+    let heat = floored (sample_heat m.card s) in
+    is_accepted a.stepped.outcome ≡ true → own_register m.card s ≡ Heat →
+    (cell_at a.cells i ≡ cell_at cells i + heat) × (a.stepped.meter.register ≡ m.register + heat)

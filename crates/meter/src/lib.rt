@@ -1,5 +1,5 @@
 // The meter: its card, its state, and the step that takes one sample (document 01, "Card" and "Meter's step"), by edition (document 02,
-// requests 2 and 5).
+// requests 2 and 5), also with the day profile (request 7).
 #![tactic(auto)]
 
 mod card;
@@ -7,6 +7,7 @@ mod edition;
 mod fresh_meter;
 mod limits;
 mod measurement;
+mod profile;
 mod ranges;
 mod register;
 mod sample;
@@ -17,6 +18,7 @@ mod usable;
 pub use card::{CARD_FIELDS, Card};
 pub use edition::{LAST_EDITION, counts_cold, is_other_edition, keeps_seconds};
 pub use fresh_meter::fresh;
+pub use profile::{Profiled, QUARTERS, empty_profile, step_in_quarter};
 pub use register::Register;
 pub use sample::{SAMPLE_FIELDS, Sample};
 pub use state::Meter;

@@ -51,7 +51,8 @@ numbered n =
     cond (eqb n 68) R.InputSize (
     cond (eqb n 70) R.SupplyAboveRange (
     cond (eqb n 71) R.ReturnAboveRange (
-    R.OneEditionAlone)))))))))))))))))))))))))))))))))))))))
+    cond (eqb n 72) R.OneEditionAlone (
+    R.Profile))))))))))))))))))))))))))))))))))))))))
 
 given_back : (p : Refusal) → numbered (number_of p) ≡ p
 unfolding number_of numbered
@@ -95,6 +96,7 @@ given_back R.InputSize = refl
 given_back R.SupplyAboveRange = refl
 given_back R.ReturnAboveRange = refl
 given_back R.OneEditionAlone = refl
+given_back R.Profile = refl
 
 pub numbers_differ : NumbersDiffer
 numbers_differ p q e = sym (given_back p) ∙ ap numbered e ∙ given_back q

@@ -47,6 +47,7 @@ number_of R.InputSize = 68
 number_of R.SupplyAboveRange = 70
 number_of R.ReturnAboveRange = 71
 number_of R.OneEditionAlone = 72
+number_of R.Profile = 73
 
 -- a row of the table: a refusal, and the condition under which it is given
 abbrev pub row : Refusal → Bool → Row

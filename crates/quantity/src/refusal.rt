@@ -48,6 +48,7 @@ pub enum Refusal {
     SupplyAboveRange = 70,
     ReturnAboveRange = 71,
     OneEditionAlone = 72,
+    Profile = 73,
 }
 
 impl Refusal {

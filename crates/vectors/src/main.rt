@@ -7,6 +7,7 @@ mod archives;
 mod conversions;
 mod hexadecimal;
 mod meters;
+mod profiles;
 mod readers;
 mod temperatures;
 mod text;
@@ -64,6 +65,7 @@ fn operate(out: &mut impl Write, line: &[u8]) -> Result<(), Unanswered> {
         [b'Q', ..] => waters::of_published(out, line)?,
         [b'F', ..] => meters::of_card(out, line)?,
         [b'M', ..] => meters::of_state(out, line)?,
+        [b'D', ..] => profiles::of_quarter(out, line)?,
         [b'V', ..] => verdicts::of_point(out, line)?,
         [b'G', ..] => verdicts::limit_at_point(out, line)?,
         [b'J', ..] => verdicts::of_limit(out, line)?,

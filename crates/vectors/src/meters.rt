@@ -1,13 +1,21 @@
 // Fresh meters of outside cards, and the meter's step from outside states.
 use crate::answers::Unanswered;
 use crate::text::{number, numbers};
-use meter::{Card, Meter, Sample};
+use meter::{Card, Meter, Sample, Stepped};
 use std::io;
 use std::io::Write;
 
 // `M,` the card's twelve fields, the meter's state, then pulses, seconds, supply and return reading: the refusal or 0, then the state
 // afterwards. A state is register, volume, accepted, refused, edition, kept seconds and cold register, in the input's order, not the meter's.
 pub(crate) fn of_state(out: &mut impl Write, line: &[u8]) -> io::Result<()> {
+    put_stepped(
+        out,
+        meter::step(meter_of(line), Sample::from(numbers(line, 20))),
+    )
+}
+
+// The meter whose card and state are the first numbers of a line.
+pub(crate) fn meter_of(line: &[u8]) -> Meter {
     let [
         register,
         volume,
@@ -17,7 +25,7 @@ pub(crate) fn of_state(out: &mut impl Write, line: &[u8]) -> io::Result<()> {
         kept_seconds,
         cold_register,
     ] = numbers::<7>(line, 13);
-    let before = Meter {
+    Meter {
         card: Card::from(numbers(line, 1)),
         register,
         volume,
@@ -26,8 +34,11 @@ pub(crate) fn of_state(out: &mut impl Write, line: &[u8]) -> io::Result<()> {
         edition,
         kept_seconds,
         cold_register,
-    };
-    let stepped = meter::step(before, Sample::from(numbers(line, 20)));
+    }
+}
+
+// The refusal or 0, then the state.
+pub(crate) fn put_stepped(out: &mut impl Write, stepped: Stepped) -> io::Result<()> {
     match stepped.outcome {
         Ok(()) => out.write_all(b",0")?,
         Err(refusal) => write!(out, ",{refusal}")?,

@@ -1,0 +1,94 @@
+// The day profile by quarter hours (document 02, request 7): the step for a sample that comes with its quarter's index.
+ghost use Rattle.std.specs.Prelude.{◌≡◌, IfOk, Ok, ltb};
+ghost use Rattle.std.specs.List.{list_any};
+ghost use Rattle.std.specs.Result.{result_and};
+ghost use Rattle.quantity.specs.Refusals.{first_of};
+ghost use Rattle.meter.specs.Profile.{zero_cells, profile_rows, by_profile, in_quarter_of};
+ghost use Rattle.meter.specs.Inside.Quarters.{Admitted};
+
+use crate::sample::Sample;
+use crate::state::{LARGEST_REGISTER, Meter};
+use crate::stepping::{Stepped, step};
+use quantity::{Refusal, first_refusal};
+
+// How many quarters of an hour a day has.
+pub const QUARTERS: usize = 96;
+
+// The step's answer, and the cells after it.
+#[derive(Clone, Copy, Debug, PartialEq, Eq)]
+pub struct Profiled {
+    pub stepped: Stepped,
+    pub cells: [u64; QUARTERS],
+}
+
+// The cells at the start of a day.
+pub fn empty_profile() -> [u64; QUARTERS]
+    ensures { result ≡ zero_cells }
+{
+    [0; QUARTERS]
+}
+
+// Takes one sample with the index of its quarter. Refused by 73, meter and cells are unchanged. Otherwise the step answers, and an accepted
+// heat sample adds its floored heat to the cell of its index.
+#[tactic(auto, unfolding(crate::specs::Profile::in_quarter_of))]
+pub fn step_in_quarter(m: Meter, cells: [u64; QUARTERS], s: Sample, index: u64) -> Profiled
+    ensures { result ≡ in_quarter_of m cells s index }
+{
+    match Quarter::of(cells, index) {
+        Ok(quarter) => quarter.take(m, s),
+        Err(refusal) => Profiled {
+            stepped: Stepped {
+                meter: m,
+                outcome: Err(refusal),
+            },
+            cells,
+        },
+    }
+}
+
+// Cells and a quarter's index that row 73 does not refuse, so that the index is that of a cell, and the cells are small.
+#[derive(Clone, Copy)]
+struct Quarter {
+    cells: [u64; QUARTERS],
+    index: usize,
+    ghost bounds: { Admitted cells index },
+}
+
+impl Quarter {
+    fn of(cells: [u64; QUARTERS], index: u64) -> Result<Quarter, Refusal>
+        ensures rows { result_and result (Ok tt) ≡ first_of (profile_rows cells index) }
+        ensures same { IfOk result (λ q. (q.cells ≡ cells) × (q.index ≡ index)) }
+    {
+        profile_refusal(cells, index)?;
+        Ok(Quarter {
+            cells,
+            index: index as usize,
+        })
+    }
+
+    // The step's answer, and the cells after it. The heat register grows by what an accepted heat sample adds to its cell, and by nothing otherwise.
+    #[tactic(auto, using(crate::proofs::Quarters::not_below, crate::proofs::Quarters::answer_is))]
+    fn take(self, m: Meter, s: Sample) -> Profiled
+        ensures { result ≡ by_profile m self.cells s self.index (Ok tt) }
+    {
+        let stepped = step(m, s);
+        let mut cells = self.cells;
+        cells[self.index] += stepped.meter.register - m.register;
+        Profiled { stepped, cells }
+    }
+}
+
+// Row 73.
+#[tactic(auto, unfolding(crate::specs::Profile::profile_rows))]
+fn profile_refusal(cells: [u64; QUARTERS], index: u64) -> Result<(), Refusal>
+    ensures { result ≡ first_of (profile_rows cells index) }
+{
+    first_refusal(&[Refusal::Profile.when(95 < index || has_above(cells, LARGEST_REGISTER))])
+}
+
+// Whether a cell is above a limit.
+fn has_above(cells: [u64; QUARTERS], limit: u64) -> bool
+    ensures { result ≡ list_any (λ cell. ltb limit cell) cells }
+{
+    cells.iter().any(|cell| limit < *cell)
+}
