@@ -187,7 +187,7 @@ both_counts m = m.accepted + m.refused
 
 one_more_lem : (m : Meter) (s : Sample) (a : Stepped) → Answers m s a → WithinLimits m → both_counts a.meter ≡ both_counts m + counts_of a.outcome
 one_more_lem m s a (accepts h) g = omega arith
-one_more_lem m s a (refuses_sample n e f) g = 
+one_more_lem m s a (refuses_sample n e f) g =
     simp (ne_eqb (number_of n) 21 (larger n (sample_number m s n f)), ne_eqb (number_of n) 73 (smaller n (sample_number_most m s n f))) (omega arith)
 one_more_lem m s a (refuses_before n e) g = simp (eq-eqb (number_of n) 21 (number_21 n (only_21 m n g e))) (omega arith)
 

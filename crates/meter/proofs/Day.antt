@@ -37,7 +37,7 @@ use Rattle.meter.proofs.Accepted.{accepted_state, accepted_limits}
 use Rattle.meter.proofs.Along.{step_not_73}
 use Rattle.meter.proofs.Cells.{raised_together, cell_at_most, zeros_together, all_at_most}
 use Rattle.meter.proofs.Leaves.{Leaves, adds, counts, keeps, leaves}
-use Rattle.meter.proofs.Quarters.{heat_by, grown, cells_raised, admitted, in_quarter_cells, as_many}
+use Rattle.meter.proofs.Quarters.{heat_by, grown, cells_raised, admitted, in_quarter_exactly, in_quarter_cells, as_many}
 use Rattle.meter.proofs.Registers.{room_in_each}
 
 -- ---- one call
@@ -71,12 +71,7 @@ all_heat c s (Ok u) a own = ap (λ (r : Register). added_to Heat r (floored (sam
 all_heat c s (Err n) a own = absurd cc
 
 index_within : (m : Meter) (cells : List ℕ) (s : Sample) (i : ℕ) → is_accepted (in_quarter_of m cells s i).stepped.outcome ≡ true → i < quarters
-unfolding in_quarter_of
-index_within m cells s i = by (first_of (profile_rows cells i)) refl
-  where
-    by : (o : Result Unit Refusal) → first_of (profile_rows cells i) ≡ o → is_accepted (by_profile m cells s i o).stepped.outcome ≡ true → i < quarters
-    by (Ok u) e a = (admitted cells i e).within
-    by (Err n) e a = absurd cc
+index_within m cells s i a = (admitted cells i (no_refusal (profile_rows cells i) ((in_quarter_exactly m cells s i).0 a).0)).within
 
 pub cell_as_register : CellAsRegister
 cell_as_register m cells s i long a own =

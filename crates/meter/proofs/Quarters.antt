@@ -11,26 +11,29 @@ use lib.ListN.{length, length-set}
 use lib.Seq.{get_or-set_other}
 use borrow.Author.Tests.{ltb-false}
 use Rattle.quantity.specs.Fractions.{floored}
-use Rattle.quantity.specs.Refusals.{first_of}
+use Rattle.quantity.specs.Refusals.{first_of, NoneApplies}
 use Rattle.std.specs.Prelude.{Result, Ok, Err}
 use Rattle.std.specs.List.{list_any}
 use Rattle.quantity.specs.declared.refusal.Refusal.{Refusal}
 use Rattle.quantity.specs.declared.refusal.Refusal.TheVariants.{Profile}
 use Rattle.quantity.proofs.Conditions.{neither}
-use Rattle.quantity.proofs.Rows.{none_applies, of_some_row}
+use Rattle.quantity.proofs.Rows.{none_applies, no_refusal, of_some_row}
+use Rattle.meter.specs.Answers.{NoRowRefuses}
+use Rattle.meter.specs.Calls.{is_accepted}
 use Rattle.meter.specs.Profile.{quarters, profile_rows, cell_at, raised_at, cells_after, by_profile, in_quarter_of}
 use Rattle.meter.specs.Inside.Quarters.{Admitted}
 use Rattle.meter.specs.Register.{own_register, is_same}
 use Rattle.meter.specs.Sample.{sample_heat}
 use Rattle.meter.specs.State.{largest_register}
 use Rattle.meter.specs.Step.{added_by, step_of}
-use Rattle.meter.specs.Theorems.{OtherCellsStay}
+use Rattle.meter.specs.Theorems.{InQuarterExactly, OtherCellsStay}
 use Rattle.meter.specs.declared.card.Card.{Card}
 use Rattle.meter.specs.declared.register.Register.TheVariants.{Heat}
 use Rattle.meter.specs.declared.sample.Sample.{Sample}
 use Rattle.meter.specs.declared.state.Meter.{Meter}
 use Rattle.meter.specs.declared.stepping.Stepped.{Stepped}
 use Rattle.meter.proofs.Accepted.{accepted_limits}
+use Rattle.meter.proofs.Answers.{accepted_exactly}
 use Rattle.meter.proofs.Cells.{raised_by_none, none_above}
 use Rattle.meter.proofs.Leaves.{Leaves, adds, counts, keeps, step_leaves}
 
@@ -114,6 +117,20 @@ pub in_quarter_cells : (m : Meter) (cells : List ℕ) (s : Sample) (i : ℕ) →
     (in_quarter_of m cells s i).cells ≡ raised_at cells i (heat_by m.card s (in_quarter_of m cells s i).stepped.outcome)
 unfolding in_quarter_of
 in_quarter_cells m cells s i = by_rows m cells s i (first_of (profile_rows cells i))
+
+-- it accepts exactly what neither row 73 nor the step refuses
+pub in_quarter_exactly : InQuarterExactly
+unfolding in_quarter_of
+in_quarter_exactly m cells s i = (
+  forth (first_of (profile_rows cells i)) refl,
+  λ h. ap (λ (o : Result Unit Refusal). is_accepted (by_profile m cells s i o).stepped.outcome) (no_refusal (profile_rows cells i) h.0)
+      ∙ (accepted_exactly m s).1 h.1,
+)
+  where
+    forth : (o : Result Unit Refusal) → first_of (profile_rows cells i) ≡ o → is_accepted (by_profile m cells s i o).stepped.outcome ≡ true →
+        NoneApplies (profile_rows cells i) × NoRowRefuses m s
+    forth (Ok u) e a = (none_applies (profile_rows cells i) e, (accepted_exactly m s).0 a)
+    forth (Err r) e a = absurd cc
 
 -- so a cell other than the index's is as it was
 pub other_cells_stay : OtherCellsStay

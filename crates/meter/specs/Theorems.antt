@@ -13,7 +13,7 @@ use Rattle.meter.specs.State.{fresh_of, zeros, largest_register, largest_volume,
 use Rattle.meter.specs.Sample.{has_volume, supply_of, return_of, ts, tr, sample_heat}
 use Rattle.meter.specs.Register.{register_of, own_register, is_same}
 use Rattle.meter.specs.Step.{count_rows, reading_rows, is_above_qs, range_rows, kept_of, step_of}
-use Rattle.meter.specs.Profile.{quarters, zero_cells, cell_at, in_quarter_of}
+use Rattle.meter.specs.Profile.{quarters, zero_cells, profile_rows, cell_at, in_quarter_of}
 use Rattle.meter.specs.Day.{InQuarter, DayCalls, day_of, together}
 use Rattle.meter.specs.Sum.{Mark, is_own, nothing, sum_of, allowance_of, WithinBounds}
 use Rattle.meter.specs.Calls.{Calls, is_accepted}
@@ -274,6 +274,12 @@ abbrev pub DayStands : Type 0
 DayStands =
     (m z : Meter) (cells last : List ℕ) (qs : List InQuarter) → DayCalls m cells qs z last →
     (ks : List Mark) × ((map (λ (k : Mark). k.sample) ks ≡ map (λ (q : InQuarter). q.sample) qs) × Calls m ks z)
+
+-- a sample that comes with an index is accepted exactly when neither row 73 nor any row of the step refuses it
+abbrev pub InQuarterExactly : Type 0
+InQuarterExactly =
+    (m : Meter) (cells : List ℕ) (s : Sample) (i : ℕ) →
+    (is_accepted (in_quarter_of m cells s i).stepped.outcome ≡ true) ↔ (NoneApplies (profile_rows cells i) × NoRowRefuses m s)
 
 -- whatever a call with an index is given, a cell other than that of the index is as it was
 abbrev pub OtherCellsStay : Type 0
