@@ -2,7 +2,7 @@
 -- Assumes nothing.
 use mathlib.Core.Path.{◌≡◌, refl, sym, ◌∙◌, ap, subst}
 use mathlib.Core.List.{List, [], ◌∷◌}
-use mathlib.Core.Bool.{Bool, true, false, cond}
+use mathlib.Core.Bool.{Bool, true, false, cond, true≢false}
 use mathlib.Core.Logic.{◌⊎◌, inl, inr}
 use Prim.Native.Nat.{ℕ, ◌+◌, ◌≤◌}
 use native.Mathlib.Omega.{arith}
@@ -14,6 +14,7 @@ use Rattle.std.specs.Prelude.{Result, Ok, Err}
 use Rattle.quantity.specs.declared.refusal.Refusal.{Refusal}
 use Rattle.quantity.specs.declared.refusal.Refusal.TheVariants.{CountsFull, Profile}
 use Rattle.std.specs.Result.{result_and}
+use Rattle.std.proofs.Common.{rules}
 use Rattle.quantity.proofs.Rows.{parts, of_some_row}
 use Rattle.meter.specs.Card.{card_rows}
 use Rattle.meter.specs.State.{fresh_of, state_rows, largest_register, largest_volume, largest_count}
@@ -145,25 +146,30 @@ pub number_21 : (r : Refusal) → r ≡ CountsFull → number_of r ≡ 21
 unfolding number_of
 number_21 r e = rw e refl
 
--- the largest are 70 and 71
-sample_number_most : (m : Meter) (s : Sample) (r : Refusal) → first_of (sample_rows m s) ≡ Err r → number_of r ≤ 71
+-- no row of the step has the number 73
+sample_not_73 : (m : Meter) (s : Sample) (r : Refusal) → first_of (sample_rows m s) ≡ Err r → eqb (number_of r) 73 ≡ false
 unfolding count_rows reading_rows range_rows limit_rows end_refusal number_of
-sample_number_most m s r e = of_some_row (λ (k : Refusal). number_of k ≤ 71) (sample_rows m s) r (omega arith) e
+sample_not_73 m s r e = of_some_row (λ (k : Refusal). eqb (number_of k) 73 ≡ false) (sample_rows m s) r (search rules) e
 
-smaller : (r : Refusal) → number_of r ≤ 71 → number_of r ≡ 73 → ⊥
-smaller r h e = omega arith
+before_not_73 : (m : Meter) (r : Refusal) → first_of (card_and_state_rows m) ≡ Err r → eqb (number_of r) 73 ≡ false
+unfolding card_rows state_rows number_of
+before_not_73 m r e = of_some_row (λ (k : Refusal). eqb (number_of k) 73 ≡ false) (card_and_state_rows m) r (search rules) e
 
 -- 73 is the number of the profile
-number_73 : (r : Refusal) → r ≡ Profile → number_of r ≡ 73
+is_73 : eqb (number_of Profile) 73 ≡ true
 unfolding number_of
-number_73 r e = rw e refl
+is_73 = refl
 
 -- so the step never answers it
+by_number : (r : Refusal) → eqb (number_of r) 73 ≡ false → ◌≡◌ {A = Result Unit Refusal} (Err r) (Err Profile) → ⊥
+by_number r h e =
+    let same : r ≡ Profile = cc in
+    true≢false (sym is_73 ∙ ap (λ (k : Refusal). eqb (number_of k) 73) (sym same) ∙ h)
+
 not_73 : (m : Meter) (s : Sample) (a : Stepped) → Answers m s a → a.outcome ≡ Err Profile → ⊥
-unfolding card_rows state_rows number_of
 not_73 m s a (accepts h) e = absurd cc
-not_73 m s a (refuses_sample r f g) e = smaller r (sample_number_most m s r g) (number_73 r cc)
-not_73 m s a (refuses_before r f) e = smaller r (of_some_row (λ (k : Refusal). number_of k ≤ 71) (card_and_state_rows m) r (omega arith) f) (number_73 r cc)
+not_73 m s a (refuses_sample r f g) e = by_number r (sample_not_73 m s r g) e
+not_73 m s a (refuses_before r f) e = by_number r (before_not_73 m r f) e
 
 pub step_not_73 : (m : Meter) (s : Sample) → (step_of m s).outcome ≡ Err Profile → ⊥
 step_not_73 m s = not_73 m s (step_of m s) (step_answers m s)
@@ -188,7 +194,7 @@ both_counts m = m.accepted + m.refused
 one_more_lem : (m : Meter) (s : Sample) (a : Stepped) → Answers m s a → WithinLimits m → both_counts a.meter ≡ both_counts m + counts_of a.outcome
 one_more_lem m s a (accepts h) g = omega arith
 one_more_lem m s a (refuses_sample n e f) g =
-    simp (ne_eqb (number_of n) 21 (larger n (sample_number m s n f)), ne_eqb (number_of n) 73 (smaller n (sample_number_most m s n f))) (omega arith)
+    simp (ne_eqb (number_of n) 21 (larger n (sample_number m s n f)), sample_not_73 m s n f) (omega arith)
 one_more_lem m s a (refuses_before n e) g = simp (eq-eqb (number_of n) 21 (number_21 n (only_21 m n g e))) (omega arith)
 
 none_more : (n : ℕ) → n ≡ n + counts_of (Err Profile)

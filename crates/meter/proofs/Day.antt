@@ -1,7 +1,7 @@
 -- The calls of a day: the cells together are what the heat register grew by.
 -- Assumes nothing.
 use mathlib.Core.Path.{◌≡◌, refl, sym, ap, ◌∙◌, subst}
-use mathlib.Core.List.{List, [], ◌∷◌, map}
+use mathlib.Core.List.{List, [], ◌∷◌}
 use mathlib.Core.Bool.{Bool, true, false}
 use Prim.Native.Nat.{ℕ, ◌+◌, ◌≤◌, ◌<◌}
 use native.Mathlib.Nat.{add-zero}
@@ -17,10 +17,10 @@ use Rattle.quantity.specs.declared.refusal.Refusal.{Refusal}
 use Rattle.quantity.specs.declared.refusal.Refusal.TheVariants.{Profile}
 use Rattle.quantity.proofs.Rows.{no_refusal}
 use Rattle.meter.specs.Calls.{Calls, none, in_quarter, is_accepted, mark_of}
-use Rattle.meter.specs.Day.{InQuarter, DayCalls, no_call, call, day_of, together}
+use Rattle.meter.specs.Day.{InQuarter, DayCalls, no_call, call, day_of, day_asked, together}
 use Rattle.meter.specs.Profile.{quarters, zero_cells, profile_rows, cell_at, by_profile, in_quarter_of}
 use Rattle.meter.specs.Register.{own_register, added_to}
-use Rattle.meter.specs.Run.{asks_in_quarter}
+use Rattle.meter.specs.Run.{Asking, asks_in_quarter, asked_of}
 use Rattle.meter.specs.Sample.{sample_heat}
 use Rattle.meter.specs.State.{largest_register}
 use Rattle.meter.specs.Step.{step_of}
@@ -159,11 +159,17 @@ pub only_day : OnlyDay
 only_day m z cells last qs calls = only calls
 
 stands : {m z : Meter} {cells last : List ℕ} {qs : List InQuarter} → DayCalls m cells qs z last →
-    (ks : List Mark) × ((map (λ (k : Mark). k.sample) ks ≡ map (λ (q : InQuarter). q.sample) qs) × Calls m ks z)
-stands no_call = ([], (refl, none))
-stands (call {cells = cells} q a p rest) =
+    (ks : List Mark) × ((calls : Calls m ks z) × (asked_of calls ≡ day_asked m cells qs))
+stands no_call = ([], (none, refl))
+stands (call {cells = cells} {qs = qs} q a p rest) =
     let others = stands rest in
-    (mark_of q.sample a.stepped ∷ others.0, (ap (λ (l : List Sample). q.sample ∷ l) others.1.0, in_quarter cells q.sample q.index a p others.1.1))
+    let asked = asks_in_quarter cells q.sample q.index in (
+      mark_of q.sample a.stepped ∷ others.0,
+      (
+        in_quarter cells q.sample q.index a p others.1.0,
+        ap (λ (l : List Asking). asked ∷ l) (others.1.1 ∙ ap (λ (x : Profiled). day_asked x.stepped.meter x.cells qs) p),
+      ),
+    )
 
 pub day_stands : DayStands
 day_stands m z cells last qs calls = stands calls

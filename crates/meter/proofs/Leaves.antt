@@ -1,4 +1,4 @@
--- What a call leaves behind, whichever function it is of: all that the laws along the calls rest on.
+-- What a call leaves behind, whichever function it is of: all that the laws along the calls rest on, but for the count of calls (`one_counted`).
 -- Assumes nothing.
 use mathlib.Core.Path.{◌≡◌}
 use mathlib.Core.List.{List}

@@ -2,6 +2,7 @@
 -- one before it returned, with nothing else writing them".
 use Rattle.std.specs.Prelude.{ℕ, ◌+◌, ◌≡◌, List, [], ◌∷◌}
 use Rattle.meter.specs.Profile.{in_quarter_of}
+use Rattle.meter.specs.Run.{Asking, asks_in_quarter}
 use Rattle.meter.specs.declared.profile.Profiled.{Profiled}
 use Rattle.meter.specs.declared.sample.Sample.{Sample}
 use Rattle.meter.specs.declared.state.Meter.{Meter}
@@ -21,6 +22,13 @@ pub data DayCalls : Meter → List ℕ → List InQuarter → Meter → List ℕ
 abbrev pub day_of : Meter → List ℕ → List InQuarter → Meter × List ℕ
 day_of m cells [] = (m, cells)
 day_of m cells (q ∷ qs) = let a = in_quarter_of m cells q.sample q.index in day_of a.stepped.meter a.cells qs
+
+-- what is asked in such calls: each with the cells that the one before it returned
+abbrev pub day_asked : Meter → List ℕ → List InQuarter → List Asking
+day_asked m cells [] = []
+day_asked m cells (q ∷ qs) =
+    let a = in_quarter_of m cells q.sample q.index in
+    asks_in_quarter cells q.sample q.index ∷ day_asked a.stepped.meter a.cells qs
 
 -- "the cells together"
 abbrev pub together : List ℕ → ℕ

@@ -6,10 +6,10 @@ pub mod Sample
 pub mod Register
 pub mod Step
 pub mod Profile
-pub mod Day
 pub mod Sum
 pub mod Calls
 pub mod Run
+pub mod Day
 pub mod Answers
 pub mod Theorems
 pub mod Inside

@@ -14,7 +14,7 @@ use Rattle.meter.specs.Sample.{has_volume, supply_of, return_of, ts, tr, sample_
 use Rattle.meter.specs.Register.{register_of, own_register, is_same}
 use Rattle.meter.specs.Step.{count_rows, reading_rows, is_above_qs, range_rows, kept_of, step_of}
 use Rattle.meter.specs.Profile.{quarters, zero_cells, profile_rows, cell_at, in_quarter_of}
-use Rattle.meter.specs.Day.{InQuarter, DayCalls, day_of, together}
+use Rattle.meter.specs.Day.{InQuarter, DayCalls, day_of, day_asked, together}
 use Rattle.meter.specs.Sum.{Mark, is_own, nothing, sum_of, allowance_of, WithinBounds}
 use Rattle.meter.specs.Calls.{Calls, is_accepted}
 use Rattle.meter.specs.Run.{Asking, sample_asked, answer_of, marks_asked, last_asked, asked_of, marks_of, last_of}
@@ -269,11 +269,11 @@ DayExists = (m : Meter) (cells : List ℕ) (qs : List InQuarter) → DayCalls m 
 abbrev pub OnlyDay : Type 0
 OnlyDay = (m z : Meter) (cells last : List ℕ) (qs : List InQuarter) → DayCalls m cells qs z last → (z, last) ≡ day_of m cells qs
 
--- and they stand in demand 3's list: calls of the same samples lead from the same meter to the same
+-- and they stand in demand 3's list: calls that ask just the same lead from the same meter to the same
 abbrev pub DayStands : Type 0
 DayStands =
     (m z : Meter) (cells last : List ℕ) (qs : List InQuarter) → DayCalls m cells qs z last →
-    (ks : List Mark) × ((map (λ (k : Mark). k.sample) ks ≡ map (λ (q : InQuarter). q.sample) qs) × Calls m ks z)
+    (ks : List Mark) × ((calls : Calls m ks z) × (asked_of calls ≡ day_asked m cells qs))
 
 -- a sample that comes with an index is accepted exactly when neither row 73 nor any row of the step refuses it
 abbrev pub InQuarterExactly : Type 0
