@@ -59,7 +59,7 @@ impl Quarter {
         ensures rows { result_and result (Ok tt) ≡ first_of (profile_rows cells index) }
         ensures same { IfOk result (λ q. (q.cells ≡ cells) × (q.index ≡ index)) }
     {
-        profile_refusal(cells, index)?;
+        profile_refusal(&cells, index)?;
         Ok(Quarter {
             cells,
             index: index as usize,
@@ -80,15 +80,15 @@ impl Quarter {
 
 // Row 73.
 #[tactic(auto, unfolding(crate::specs::Profile::profile_rows))]
-fn profile_refusal(cells: [u64; QUARTERS], index: u64) -> Result<(), Refusal>
-    ensures { result ≡ first_of (profile_rows cells index) }
+fn profile_refusal(cells: &[u64], index: u64) -> Result<(), Refusal>
+    ensures { result ≡ first_of (profile_rows cells.now index) }
 {
     first_refusal(&[Refusal::Profile.when(95 < index || has_above(cells, LARGEST_REGISTER))])
 }
 
 // Whether a cell is above a limit.
-fn has_above(cells: [u64; QUARTERS], limit: u64) -> bool
-    ensures { result ≡ list_any (λ cell. ltb limit cell) cells }
+fn has_above(cells: &[u64], limit: u64) -> bool
+    ensures { result ≡ list_any (λ cell. ltb limit cell) cells.now }
 {
     cells.iter().any(|cell| limit < *cell)
 }
