@@ -9,7 +9,6 @@ use lib.Dec.{eqb}
 use borrow.Author.Tests.{eqb-true, eqb-false, eq-eqb}
 use Rattle.quantity.specs.Largest.{largest}
 use Rattle.quantity.specs.Divisors.{divides_both, largest_common_divisor, IsLargestCommonDivisor}
-use Rattle.quantity.specs.Theorems.{DivisorExactly}
 use Rattle.quantity.proofs.Conditions.{both}
 use Rattle.quantity.proofs.Largest.{bounded, holds, at_least}
 
@@ -80,14 +79,8 @@ exists (suc most) a b h = go (eqb b 0) refl (exists most b (a % b))
         let rest = f (omega (arith, mod-lt a {m = b} (omega (arith, z)))) in
         (rest.0, stepped rest.0 a b rest.1)
 
-pub divisor_exactly : DivisorExactly
-divisor_exactly g a b = (λ e. rw e (subst (λ (x : ℕ). IsLargestCommonDivisor x a b) (found _ a b some.1) some.1), found g a b)
-  where
-    some : (x : ℕ) × IsLargestCommonDivisor x a b
-    some = exists b a b (le_refl b)
-
 pub is_largest : (a b : ℕ) → IsLargestCommonDivisor (largest_common_divisor a b) a b
-is_largest a b = (divisor_exactly _ a b).0 refl
+is_largest a b = let some = exists b a b (le_refl b) in subst (λ (x : ℕ). IsLargestCommonDivisor x a b) (found _ a b some.1) some.1
 
 -- what the loop needs
 pub divisor_of_zero : (a : ℕ) → a ≡ largest_common_divisor a 0

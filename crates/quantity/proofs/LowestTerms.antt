@@ -1,13 +1,13 @@
 -- Lowest terms: reduced, a fraction is in them, and no other pair of numbers in lowest terms is the same fraction.
 -- Assumes nothing.
-use mathlib.Core.Path.{◌≡◌, sym, ◌∙◌, ap, subst}
+use mathlib.Core.Path.{◌≡◌, refl, sym, ◌∙◌, ap, subst}
 use Prim.Native.Nat.{ℕ, ◌*◌, ◌/◌, ◌∣◌, ◌<◌}
 use native.Mathlib.Nat.{mul-one, one-mul, dvd_trans, dvd_antisymm, dvd-mul_left, dvd-mul_right, mul-dvd-mul_left, mul-dvd-mul_right, dvd_of_mul-dvd-mul_left, dvd_of_mul-dvd-mul_right, mul-div_cancel', div-mul_cancel, pos_of_dvd_of_pos, eq-one_of_dvd-one, eq_of_mul-eq-mul_right, eq-zero_of_zero-dvd, div-zero}
 use native.Mathlib.Omega.{arith}
 use lib.Dec.{lit<}
 use Rattle.quantity.specs.Divisors.{largest_common_divisor, InLowestTerms, reduced}
 use Rattle.quantity.specs.Fractions.{◌over◌, whole, IsFraction, Same, Represents}
-use Rattle.quantity.specs.Theorems.{ReducedExactly, SameReduced, WholeReduced}
+use Rattle.quantity.specs.Theorems.{ReducedExactly}
 use Rattle.quantity.specs.declared.fraction.Fraction.{Fraction}
 use Rattle.quantity.proofs.Divisors.{is_largest}
 
@@ -90,20 +90,24 @@ reduced_is_lowest x p k s t =
     let above = pos_of_dvd_of_pos m.second p in
     eq-one_of_dvd-one (dvd_of_mul-dvd-mul_right k above (subst (λ (z : ℕ). k * g ∣ z) (sym (one-mul g)) (m.every (k * g) a b)))
 
-pub reduced_exactly : ReducedExactly
-reduced_exactly r x p = (
-  λ e. rw e (reduced_represents x p, reduced_is_lowest x p),
+pub reduced_exactly : (x y : Fraction) → y ≡ reduced x → ReducedExactly x y
+reduced_exactly x y same r p = (
+  λ e. rw (e, same) (reduced_represents x p, reduced_is_lowest x p),
   λ h.
       let m = reduced_represents x p in
-      one_pair r (reduced x) h.0.is_fraction m.is_fraction h.1 (reduced_is_lowest x p) (same_as r x (reduced x) p h.0.same m.same),
+      one_pair r (reduced x) h.0.is_fraction m.is_fraction h.1 (reduced_is_lowest x p) (same_as r x (reduced x) p h.0.same m.same) ∙ sym same,
 )
 
-pub same_reduced : SameReduced
+-- a fraction in lowest terms is what its reduced one is; equal fractions have the same lowest terms
+pub is_reduced : (r x : Fraction) → IsFraction x → Represents r x → InLowestTerms r → r ≡ reduced x
+is_reduced r x p same low = (reduced_exactly x (reduced x) refl r p).1 (same, low)
+
+pub same_reduced : (x y : Fraction) → IsFraction x → IsFraction y → Same x y → reduced x ≡ reduced y
 same_reduced x y p q e =
     let m = reduced_represents x p in
-    (reduced_exactly (reduced x) y q).1
-    (record { is_fraction = m.is_fraction; same = same_as (reduced x) x y p m.same (sym e) }, reduced_is_lowest x p)
+    is_reduced (reduced x) y q (record { is_fraction = m.is_fraction; same = same_as (reduced x) x y p m.same (sym e) }) (reduced_is_lowest x p)
 
-pub whole_reduced : WholeReduced
+-- a fraction that is a whole number is, reduced, that number over 1
+pub whole_reduced : (x : Fraction) (n : ℕ) → IsFraction x → Same x (whole n) → reduced x ≡ whole n
 whole_reduced x n p e =
-    sym ((reduced_exactly (whole n) x p).1 (record { is_fraction = lit< tt; same = sym e }, λ k a b. eq-one_of_dvd-one b))
+    sym (is_reduced (whole n) x p (record { is_fraction = lit< tt; same = sym e }) (λ k a b. eq-one_of_dvd-one b))

@@ -1,6 +1,6 @@
 -- Laws of `first_of`: how code takes the rows, what it means that none applies, and rows in two parts.
 -- Assumes nothing.
-use mathlib.Core.Path.{◌≡◌, refl, subst}
+use mathlib.Core.Path.{◌≡◌, refl, sym, ap, ◌∙◌, subst}
 use Rattle.std.proofs.Common.{length, get_or, drop}
 use mathlib.Core.List.{List, [], ◌∷◌, ◌++◌}
 use Rattle.std.proofs.lemmas.List.{at_drop_more, at_drop_all}
@@ -8,26 +8,10 @@ use mathlib.Core.Bool.{Bool, true, false, cond}
 use Prim.Native.Nat.{ℕ, ◌+◌, ◌<◌, ◌≤◌}
 use Rattle.std.specs.Prelude.{Result, Ok, Err}
 use Rattle.std.specs.Result.{result_and}
-use Rattle.quantity.specs.Refusals.{row, first_of, NoneApplies, or_row}
-use Rattle.quantity.specs.Theorems.{after, Accumulated, NoRefusalExactly}
+use Rattle.quantity.specs.Refusals.{number_of, refusal_number, first_of, first_number, NoneApplies}
+use Rattle.quantity.specs.Theorems.{RefusesNothing}
 use Rattle.quantity.specs.declared.refusal.Refusal.{Refusal}
 use Rattle.quantity.specs.declared.refusal.Row.{Row}
-
--- a refusal stands, whatever rows follow
-stands : (n : Refusal) (rs : List Row) → after (Err n) rs ≡ Err n
-unfolding or_row
-stands n [] = refl
-stands n (r ∷ rs) = stands n rs
-
-one_more_lem : (b : Bool) (n : Refusal) (rs : List Row) → after (Ok tt) rs ≡ first_of rs → after (or_row (Ok tt) b n) rs ≡ first_of (row n b ∷ rs)
-unfolding or_row first_of
-one_more_lem true n rs e = stands n rs
-one_more_lem false n rs e = e
-
-pub accumulated : Accumulated
-unfolding first_of
-accumulated [] = refl
-accumulated (r ∷ rs) = one_more_lem r.condition r.refusal rs (accumulated rs)
 
 -- what no refusal says of the first row and of the others
 passes : (b : Bool) (n : Refusal) (o : Result Unit Refusal) → cond b (Err n) o ≡ Ok tt → (b ≡ false) × (o ≡ Ok tt)
@@ -46,8 +30,28 @@ unfolding first_of
 no_refusal [] h = refl
 no_refusal (r ∷ rs) h = rw h.0 (no_refusal rs h.1)
 
-pub no_refusal_exactly : NoRefusalExactly
-no_refusal_exactly rs = (none_applies rs, no_refusal rs)
+pub refuses_nothing : (rs : List Row) (o : Result Unit Refusal) → o ≡ first_of rs → RefusesNothing rs o
+refuses_nothing rs o e = (λ h. none_applies rs (sym e ∙ h), λ h. e ∙ no_refusal rs h)
+
+-- the number of what rows answer is the number that they give
+number_by : (b : Bool) (r : Refusal) (o : Result Unit Refusal) → refusal_number (cond b (Err r) o) ≡ cond b (number_of r) (refusal_number o)
+unfolding refusal_number
+number_by true r o = refl
+number_by false r o = refl
+
+pub first_number_lem : (rs : List Row) → refusal_number (first_of rs) ≡ first_number rs
+unfolding first_of first_number refusal_number
+first_number_lem [] = refl
+first_number_lem (r ∷ rs) = number_by r.condition r.refusal (first_of rs) ∙ ap (cond r.condition (number_of r.refusal)) (first_number_lem rs)
+
+-- and so of an answer that is a value where they refuse nothing
+without_value : {A : Type 0} (x : Result A Refusal) → refusal_number x ≡ refusal_number (result_and x (Ok (tt {0})))
+unfolding refusal_number
+without_value (Ok a) = refl
+without_value (Err r) = refl
+
+pub answer_number : {A : Type 0} (x : Result A Refusal) (rs : List Row) → result_and x (Ok (tt {0})) ≡ first_of rs → refusal_number x ≡ first_number rs
+answer_number x rs e = without_value x ∙ ap refusal_number e ∙ first_number_lem rs
 
 -- rows in two parts: the first part decides, or else the second
 pub parts : (rs ss : List Row) → first_of (rs ++ ss) ≡ result_and (first_of rs) (first_of ss)

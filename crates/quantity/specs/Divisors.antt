@@ -14,8 +14,7 @@ divides_both a b k = eqb (a % k) 0 && eqb (b % k) 0
 unfoldable pub largest_common_divisor : ℕ → ℕ → ℕ
 largest_common_divisor a b = largest (divides_both a b) (max a b)
 
--- its two sentences: it divides both, and every number that divides both divides it. `DivisorExactly` of specs/Theorems.antt says that
--- `largest_common_divisor` and no other number has them.
+-- its two sentences: it divides both, and every number that divides both divides it. No other number has them.
 pub record IsLargestCommonDivisor (g a b : ℕ) : Type 0 where
   pub first : g ∣ a
   pub second : g ∣ b
@@ -25,8 +24,7 @@ pub record IsLargestCommonDivisor (g a b : ℕ) : Type 0 where
 abbrev pub InLowestTerms : Fraction → Type 0
 InLowestTerms x = (k : ℕ) → k ∣ x.numerator → k ∣ x.denominator → k ≡ 1
 
--- a fraction with both numbers divided by the largest that divides both. `ReducedExactly` says that these are its lowest terms, and that
--- it has no other.
+-- a fraction with both numbers divided by the largest that divides both
 unfoldable pub reduced : Fraction → Fraction
 reduced x =
     let g = largest_common_divisor x.numerator x.denominator in

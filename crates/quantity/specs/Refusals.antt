@@ -62,14 +62,17 @@ unfoldable pub first_of : List Row → Result Unit Refusal
 first_of [] = Ok tt
 first_of (r ∷ rs) = cond r.condition (Err r.refusal) (first_of rs)
 
+-- the number of an answer, of whatever it is made: that of its refusal, and 0 where nothing is refused
+unfoldable pub refusal_number : {A : Type 0} → Result A Refusal → ℕ
+refusal_number (Ok a) = 0
+refusal_number (Err r) = number_of r
+
+-- the number that rows give: that of the first whose condition holds, and 0 where none does
+unfoldable pub first_number : List Row → ℕ
+first_number [] = 0
+first_number (r ∷ rs) = cond r.condition (number_of r.refusal) (first_number rs)
+
 -- no row applies: each condition is false
 abbrev pub NoneApplies : List Row → Type 0
 NoneApplies [] = Unit {0}
 NoneApplies (r ∷ rs) = (r.condition ≡ false) × NoneApplies rs
-
--- the answer after one row more: an earlier refusal stands; otherwise the row decides. `Accumulated` of specs/Theorems.antt ties it to
--- `first_of`.
-unfoldable pub or_row : Result Unit Refusal → Bool → Refusal → Result Unit Refusal
-or_row (Err earlier) refuses r = Err earlier
-or_row (Ok u) true r = Err r
-or_row (Ok u) false r = Ok tt

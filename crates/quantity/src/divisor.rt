@@ -1,11 +1,12 @@
 // The largest common divisor of two numbers, for the lowest terms of a fraction (document 02, request 4).
 ghost use Rattle.std.specs.Prelude.{◌≡◌};
-ghost use Rattle.quantity.specs.Divisors.{largest_common_divisor};
+ghost use Rattle.quantity.specs.Divisors.{largest_common_divisor, IsLargestCommonDivisor};
 
 // Euclid's algorithm: the second number falls at each turn.
 #[tactic(auto, using(crate::proofs::Divisors::divisor_of_step))]
 pub(crate) fn largest_common_divisor(a: u64, b: u64) -> u64
-    ensures { result ≡ largest_common_divisor a b }
+    ensures answer { result ≡ largest_common_divisor a b }
+    ensures is_largest { IsLargestCommonDivisor result a b }
 {
     let mut first = a;
     let mut second = b;

@@ -2,6 +2,7 @@
 // lowest terms (document 02, request 4).
 ghost use Rattle.std.specs.Prelude.{◌≡◌};
 ghost use Rattle.quantity.specs.Divisors.{reduced};
+ghost use Rattle.quantity.specs.Theorems.{ReducedExactly};
 
 use crate::divisor::largest_common_divisor;
 
@@ -17,7 +18,8 @@ impl Fraction {
     // The same fraction in lowest terms. With a zero denominator there is no fraction; two zeros, whose largest common divisor is 0, stay.
     #[tactic(auto, using(crate::proofs::LowestTerms::zeros_stay), unfolding(crate::specs::Divisors::reduced))]
     pub fn reduced(self) -> Fraction
-        ensures { result ≡ reduced self }
+        ensures answer { result ≡ reduced self }
+        ensures reduced_exactly { ReducedExactly self result }
     {
         let divisor = largest_common_divisor(self.numerator, self.denominator);
         if divisor == 0 {

@@ -4,6 +4,7 @@
 
 mod divisor;
 mod fraction;
+pub mod laws;
 mod product;
 mod range;
 mod refusal;

@@ -1,6 +1,7 @@
 // The refusals, and how code takes the rows of their table (document 01, "Refusals, by the place of the check").
 ghost use Rattle.std.specs.Prelude.{◌≡◌};
-ghost use Rattle.quantity.specs.Refusals.{first_of, number_of, outside, row};
+ghost use Rattle.quantity.specs.Refusals.{first_number, first_of, number_of, outside, refusal_number, row};
+ghost use Rattle.quantity.specs.Theorems.{RefusesNothing};
 
 use std::error::Error;
 use std::fmt;
@@ -95,7 +96,9 @@ pub struct Row {
 // The refusal of the first row whose condition holds.
 #[tactic(auto, using(crate::proofs::Rows::row_applies, crate::proofs::Rows::row_passes, crate::proofs::Rows::rows_end))]
 pub fn first_refusal(rows: &[Row]) -> Result<(), Refusal>
-    ensures { result ≡ first_of rows.now }
+    ensures answer { result ≡ first_of rows.now }
+    ensures number { refusal_number result ≡ first_number rows.now }
+    ensures refuses_nothing { RefusesNothing rows.now result }
 {
     for row in rows {
         if row.condition {
