@@ -11,7 +11,7 @@ returns c =
     let n = m.accepted + m.refused in
     let cap = 2 ^ 64 - 1 in
     simp (
-      c.first_refusal.ensures,
+      c.first_refusal.ensures.answer,
       c.when-2.ensures,
       c.when.ensures,
       c.is_refused.ensures,
