@@ -10,4 +10,4 @@ pub mod Numbers
 pub mod Going
 pub mod Heads
 pub mod Starting
-pub mod Inputs
+pub mod Printed

@@ -1,37 +1,38 @@
-// The audit's output line, for the program (document 01, "Edges to try", and the row "Program").
+// The audit's output line, for a program with a limit on its input.
 ghost use Rattle.std.specs.Prelude.{◌≡◌, ◌≤◌};
-ghost use Rattle.lines.specs.Report.{report_text, longest_output, output_of};
-ghost use Rattle.archive.specs.Report.{of_audited, report_in};
+ghost use Rattle.lines.specs.Report.{longest_output};
+ghost use Rattle.archive.specs.Report.{of_audited, report_of, line_of, ArchiveExactly, OverLimitExactly};
 
 use crate::auditing::audit;
 use lines::{OutputLine, RefusedAt, Report};
 use meter::Meter;
 use quantity::Refusal;
 
-// "68 input over 65536 bytes": the audit program's limit. It needs a space of one byte more, to tell.
+/// The audit program's limit, in bytes.
 pub const AUDIT_LIMIT: usize = 65536;
 
-// The output line of the audit of an input that stands in the first used bytes of the space: 68, as line 0, exactly when it has more bytes
-// than limit or fills the space. It takes the space and the length apart, and no slice of the input alone: an input that fills its space may go
-// on beyond it, which the slice no longer tells.
-pub fn report(space: &[u8], used: usize, limit: usize) -> OutputLine
-    ensures answer { result ≡ output_of (report_text (report_in limit space.now used)) }
+/// The output line of the audit of a whole input: R with what an archive ends with, or X with the refusal and its line; 68 as line 0, before all else,
+/// exactly when the input has more bytes than limit.
+pub fn report(input: &[u8], limit: usize) -> OutputLine
+    ensures answer { result ≡ line_of (report_of limit input.now) }
     ensures within { result.length ≤ longest_output }
+    ensures archive_exactly { ArchiveExactly limit input.now result }
+    ensures over_limit_exactly { OverLimitExactly limit input.now result }
 {
-    lines::report_line(found(space, used, limit))
+    lines::report_line(found(input, limit))
 }
 
-#[tactic(auto, using(crate::proofs::Inputs::over, crate::proofs::Inputs::full, crate::proofs::Inputs::audited))]
-fn found(space: &[u8], used: usize, limit: usize) -> Report
-    ensures { result ≡ report_in limit space.now used }
+#[tactic(auto, unfolding(crate::specs::Report::report_of))]
+fn found(input: &[u8], limit: usize) -> Report
+    ensures { result ≡ report_of limit input.now }
 {
-    if limit < used || space.len() <= used {
+    if limit < input.len() {
         return Report::Refusal {
             number: Refusal::InputSize.number(),
             line: 0,
         };
     }
-    of_audited(audit(&space[..used]))
+    of_audited(audit(input))
 }
 
 // What the report shows of an answer. No `From`: it would stand with its types, in `lines`, and the audit's answer is this crate's.

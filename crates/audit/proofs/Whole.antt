@@ -8,7 +8,7 @@ use borrow.Author.Tests.{lt-ltb, ltb-true, ltb-false}
 use Rattle.lines.specs.Report.{report_text, output_of}
 use Rattle.lines.specs.Writing.{put_at}
 use Rattle.lines.specs.declared.report.OutputLine.{OutputLine}
-use Rattle.archive.specs.Report.{audit_limit, report_of}
+use Rattle.archive.specs.Report.{audit_limit, report_of, line_of}
 
 -- inputs over the limit have one report
 both_over : (limit : ℕ) (a b : List ℕ) → limit < length a → limit < length b → report_of limit a ≡ report_of limit b
@@ -35,7 +35,7 @@ line_text l text e = ap (λ (x : OutputLine). take x.length x.bytes) e ∙ take_
 
 pub audited : (before after held written : Option (List ℕ)) (size : ℕ) (space : List ℕ) (l : OutputLine) → audit_limit < length space
     → size ≤ length space → Consumes before after (take size space) → (size < length space → IsAtEnd after)
-    → l ≡ output_of (report_text (report_of audit_limit (take size space))) → Appends held written (take l.length l.bytes)
+    → l ≡ line_of (report_of audit_limit (take size space)) → Appends held written (take l.length l.bytes)
     → IfSome before (λ bytes. Appends held written (report_text (report_of audit_limit bytes)))
 audited None after held written size space l h k p q e w = tt
 audited (Some bytes) None held written size space l h k p q e w = absurd p

@@ -6,21 +6,21 @@ use quantity::Refusal;
 use std::io;
 use std::io::Write;
 
-// `A,` the bytes, at most 4096: the audit's whole output line, with the program's limit. A full space would be 68.
+// `A,` the bytes, at most 4096: the audit's whole output line, with the program's limit.
 pub(crate) fn of_file(out: &mut impl Write, line: &[u8]) -> io::Result<()> {
-    let mut space = [0; MOST_BYTES + 1];
-    let used = bytes_of(line, 1, &mut space).len();
-    put_report(out, &space, used)
+    let mut space = [0; MOST_BYTES];
+    put_report(out, bytes_of(line, 1, &mut space))
 }
 
-// `N,` a number: the output line of that many zero bytes, with the program's limit and its space.
+// `N,` a number: the output line of that many zero bytes, at most one more than the program's limit.
 pub(crate) fn of_zeros(out: &mut impl Write, line: &[u8]) -> io::Result<()> {
-    put_report(out, &[0; AUDIT_LIMIT + 1], number(line, 1) as usize)
+    let zeros = [0; AUDIT_LIMIT + 1];
+    let count = zeros.len().min(number(line, 1) as usize);
+    put_report(out, &zeros[..count])
 }
 
-// Space and used part go apart, as `archive::report` takes them.
-fn put_report(out: &mut impl Write, space: &[u8], used: usize) -> io::Result<()> {
-    let report = archive::report(space, used, AUDIT_LIMIT);
+fn put_report(out: &mut impl Write, input: &[u8]) -> io::Result<()> {
+    let report = archive::report(input, AUDIT_LIMIT);
     put_text(out, &report.bytes[..report.length])
 }
 

@@ -6,6 +6,7 @@ mod answers;
 mod archives;
 mod conversions;
 mod hexadecimal;
+mod laws;
 mod meters;
 mod profiles;
 mod readers;
