@@ -8,6 +8,7 @@ use Prim.Native.Nat.{ℕ, zero, suc, ◌+◌, ◌-◌, ◌≤◌, ◌<◌}
 use native.Mathlib.Omega.{arith}
 use lib.Dec.{eqb}
 use lib.ListN.{length, get_or, take}
+use Rattle.std.specs.Prelude.{slice_index_or}
 use Rattle.std.specs.Cmp.Lexicographic.{pointwise}
 use Rattle.quantity.proofs.Conditions.{inside}
 use Rattle.meter.specs.Edition.{last_edition, is_other_edition}
@@ -15,10 +16,14 @@ use Rattle.lines.specs.Bytes.{line_feed, comma, digit_zero, archive_word}
 use Rattle.lines.specs.Line.{kind_of, first_field, count_of, all_numbers_of, numbers_of, after_commas, text_of, bytes_of, opening_in, opening_length}
 use Rattle.lines.specs.Reading.{is_same, opened_up_to, edition_in}
 use Rattle.lines.specs.Theorems.{OpeningBytes, OpeningLength, OpenedExactly}
+use Rattle.lines.specs.declared.opening.TheConstants.{OPENINGS}
 use Rattle.lines.proofs.Decimals.{decimal_one}
 use Rattle.lines.proofs.Same.{same_true, same_eq, same_pointwise}
 
--- an edition is a digit
+-- an edition is a digit, and no 0
+pub edition_least : (e : ℕ) → is_other_edition e ≡ false → 1 ≤ e
+edition_least e h = (inside e 1 last_edition h).0
+
 pub edition_most : (e : ℕ) → is_other_edition e ≡ false → e ≤ last_edition
 edition_most e h = (inside e 1 last_edition h).1
 
@@ -28,6 +33,14 @@ digit_bytes e h = rw (decimal_one e (omega arith))
 
 pub digit_length : (e : ℕ) → e ≤ last_edition → length (bytes_of (opening_in e)) ≡ opening_length
 digit_length e h = ap length (digit_bytes e h)
+
+-- and the table has it at its place
+pub opening_listed : (e : ℕ) → 1 ≤ e → e ≤ last_edition → slice_index_or OPENINGS (e - 1) [] ≡ bytes_of (opening_in e)
+opening_listed zero l h = absurd (omega arith)
+opening_listed (suc zero) l h = sym (digit_bytes 1 h)
+opening_listed (suc (suc zero)) l h = sym (digit_bytes 2 h)
+opening_listed (suc (suc (suc zero))) l h = sym (digit_bytes 3 h)
+opening_listed (suc (suc (suc (suc e)))) l h = absurd (omega arith)
 
 pub opening_bytes : OpeningBytes
 opening_bytes e h = digit_bytes e (edition_most e h)

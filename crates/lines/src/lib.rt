@@ -3,7 +3,6 @@
 
 mod fault;
 mod fields;
-mod held;
 mod line;
 mod listed;
 mod number;
@@ -12,9 +11,8 @@ mod reading;
 mod report;
 mod writing;
 
-pub use held::{ReadLine, read_line};
 pub use line::{EditionLine, Front, Line, MayCome, RefusedAt, Totals};
 pub use opening::OPENING_LENGTH;
-pub use reading::{front_line, rest_after};
+pub use reading::{ReadLine, read_line};
 pub use report::{OutputLine, Report, report_line};
 pub use writing::write_line;

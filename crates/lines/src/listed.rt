@@ -7,6 +7,7 @@ ghost use Rattle.lines.specs.Inside.Parts.{parted_at, numbers_parted, most_numbe
 
 use crate::line::{EditionLine, Line};
 use crate::number::width;
+use crate::opening::opening_word;
 use meter::{CARD_FIELDS, SAMPLE_FIELDS, counts_cold, keeps_seconds};
 use std::marker::Model;
 
@@ -112,7 +113,7 @@ pub(crate) fn first_field(line: Line) -> &'static [u8]
     ensures { result.now ≡ first_field (kind_of line) }
 {
     match line {
-        Line::Opening => b"HEATARCHIVE",
+        Line::Opening => opening_word(),
         Line::Card(_) => b"C",
         Line::Sample(_) => b"S",
         Line::End(_) => b"E",

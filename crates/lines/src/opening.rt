@@ -1,54 +1,63 @@
-// The opening, a fixed byte string but for the edition's digit: the reader compares it, and the writer writes it.
-ghost use Rattle.std.specs.Prelude.{◌≡◌, false, ◌≤◌, length, take};
+// The openings: a fixed byte string for each edition, which the reader compares and the writer writes as it stands.
+ghost use Rattle.std.specs.Prelude.{◌≡◌, false, ◌≤◌, length};
 ghost use Rattle.meter.specs.Edition.{last_edition, is_other_edition};
-ghost use Rattle.lines.specs.Reading.{is_same, opened_up_to};
-ghost use Rattle.lines.specs.Line.{bytes_of, opening_in, opening_length};
+ghost use Rattle.lines.specs.Bytes.{archive_word};
+ghost use Rattle.lines.specs.Reading.{opened_up_to};
+ghost use Rattle.lines.specs.Line.{bytes_of, opening_in};
 ghost use Rattle.lines.specs.Inside.Parts.{put_front};
 
 use meter::LAST_EDITION;
 
 pub const OPENING_LENGTH: usize = 14;
 
-// The edition's opening: the fixed byte string, whose 0 holds the place of the edition's digit.
-#[tactic(auto, using(crate::proofs::Openings::digit_bytes))]
-fn opening_of(edition: u64) -> [u8; OPENING_LENGTH]
-    requires { edition ≤ last_edition }
-    ensures { result ≡ bytes_of (opening_in edition) }
+// Before a comma, the edition's digit and a line feed.
+const WORD_LENGTH: usize = OPENING_LENGTH - 3;
+
+const EDITIONS: usize = LAST_EDITION as usize;
+
+// That of edition 1 first.
+static OPENINGS: [[u8; OPENING_LENGTH]; EDITIONS] = [
+    *b"HEATARCHIVE,1\n",
+    *b"HEATARCHIVE,2\n",
+    *b"HEATARCHIVE,3\n",
+];
+
+// An edition's opening.
+#[tactic(auto, using(crate::proofs::Openings::opening_listed))]
+fn opening_of(edition: u64) -> &'static [u8; OPENING_LENGTH]
+    requires { (1 ≤ edition) × (edition ≤ last_edition) }
+    ensures { result.now ≡ bytes_of (opening_in edition) }
 {
-    let mut bytes = *b"HEATARCHIVE,0\n";
-    bytes[12] = b'0' + edition as u8;
-    bytes
+    &OPENINGS[edition as usize - 1]
 }
 
 // The edition whose opening stands at the front of bytes; 0, which is no edition, where none does, as the definition has it: so the row of the edition
 // serves both the opening and what was told. No `find`: std has no law of a range that is reversed.
-#[tactic(auto, using(crate::proofs::Openings::opened_here, crate::proofs::Openings::opened_below, crate::proofs::Openings::opened_none))]
+#[tactic(auto, using(crate::proofs::Openings::opens_by, crate::proofs::Openings::opened_here, crate::proofs::Openings::opened_below, crate::proofs::Openings::opened_none))]
 pub(crate) fn opened_edition(bytes: &[u8]) -> u64
     ensures { result ≡ opened_up_to last_edition bytes.now }
 {
     for edition in (1..=LAST_EDITION).rev() {
-        if is_opening(bytes, edition) {
+        if bytes.starts_with(opening_of(edition)) {
             return edition;
         }
     }
     0
 }
 
-// Whether bytes begins with the edition's opening.
-#[tactic(auto, using(crate::proofs::Openings::opens_by))]
-fn is_opening(bytes: &[u8], edition: u64) -> bool
-    requires { edition ≤ last_edition }
-    ensures { result ≡ is_same (take opening_length bytes.now) (bytes_of (opening_in edition)) }
-{
-    bytes.starts_with(&opening_of(edition))
-}
-
 // Puts an edition's opening at the front of part, and answers how many bytes it takes.
-#[tactic(auto, using(crate::proofs::Openings::edition_most, crate::proofs::Openings::digit_length))]
+#[tactic(auto, using(crate::proofs::Openings::edition_least, crate::proofs::Openings::edition_most, crate::proofs::Openings::digit_length))]
 pub(crate) fn put_opening(part: &mut [u8], edition: u64) -> usize
     requires { (length (bytes_of (opening_in edition)) ≤ length part.old) × (is_other_edition edition ≡ false) }
     ensures { (result ≡ length (bytes_of (opening_in edition))) × (part.new ≡ put_front part.old (bytes_of (opening_in edition))) }
 {
-    part[..OPENING_LENGTH].copy_from_slice(&opening_of(edition));
+    part[..OPENING_LENGTH].copy_from_slice(opening_of(edition));
     OPENING_LENGTH
+}
+
+// The first field of each.
+pub(crate) fn opening_word() -> &'static [u8]
+    ensures { result.now ≡ archive_word }
+{
+    &OPENINGS[0][..WORD_LENGTH]
 }
