@@ -13,7 +13,6 @@ use borrow.Author.Tests.{ltb-true, ltb-false, leb-true, eqb-false, lt-ltb, le-lt
 use Rattle.quantity.proofs.Conditions.{both}
 use Rattle.lines.specs.Bytes.{digit_zero, digit_nine}
 use Rattle.lines.specs.Number.{decimal_by, decimal, is_digit, are_digits, value_of, is_number, most_digits}
-use Rattle.lines.specs.Theorems.{DecimalIsNumber, NumberDecimal, ValueDecimal}
 
 -- ---- digit by digit
 
@@ -104,7 +103,7 @@ value_snoc (x ∷ d) b =
     let l : length (d ++ (b ∷ [])) ≡ suc (length d) = length-append d (b ∷ []) ∙ omega arith in
     rw (value_snoc d b, l, pow-suc 10 (length d)) (in_front (x - digit_zero) (10 ^ length d) (value_of d) (b - digit_zero))
 
-pub value_decimal : ValueDecimal
+pub value_decimal : (n : ℕ) → value_of (decimal n) ≡ n
 unfolding value_of
 value_decimal = decimal_ind (λ n. value_of (decimal n) ≡ n) one step
   where
@@ -182,7 +181,7 @@ decimal_lead = decimal_ind (λ n. 1 ≤ n → get_or (decimal n) 0 0 ≡ digit_z
 
 -- ---- the only text
 
-pub decimal_is_number : DecimalIsNumber
+pub decimal_is_number : (n : ℕ) → n < 10 ^ most_digits → is_number (decimal n) ≡ true
 unfolding is_number
 decimal_is_number n h =
     let p : length (decimal n) ≤ most_digits = decimal_short n most_digits (omega arith) h in
@@ -217,7 +216,7 @@ decimal_sofar v (b ∷ d) h p =
     decimal_sofar (v * 10 + (b - digit_zero)) d (omega arith) t.1
     ∙ simp (decimal_step (v * 10 + (b - digit_zero)) (omega arith), q, r, append_assoc)
 
-pub number_decimal : NumberDecimal
+pub number_decimal : (d : List ℕ) → is_number d ≡ true → decimal (value_of d) ≡ d
 unfolding is_number are_digits value_of
 number_decimal [] q = absurd (let z : ◌≡◌ {A = ℕ} 0 1 = cc q in omega arith)
 number_decimal (b ∷ []) q =

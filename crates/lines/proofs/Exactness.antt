@@ -1,23 +1,28 @@
 -- Each refusal of the reader is answered exactly where its own condition is the first that holds.
 -- Assumes nothing.
 use Rattle.std.proofs.Common.{Result, Ok, Err}
+use Rattle.std.specs.Result.{result_and}
 use mathlib.Core.Path.{◌≡◌, refl, sym, ap, ◌∙◌, subst}
-use mathlib.Core.Bool.{Bool, true, false, cond, not, ◌||◌}
+use mathlib.Core.Bool.{Bool, true, false, cond, not, ◌&&◌, and-true}
 use mathlib.Core.List.{List}
 use Prim.Native.Nat.{ℕ}
 use native.Mathlib.Omega.{arith}
-use Rattle.quantity.specs.Refusals.{first_of}
+use Rattle.quantity.specs.Refusals.{first_of, refusal_number, first_number}
 use Rattle.quantity.specs.declared.refusal.Refusal.{Refusal}
 use Rattle.quantity.specs.declared.refusal.Refusal.TheVariants as R
+use Rattle.quantity.proofs.Rows.{answer_number}
 use Rattle.meter.specs.Edition.{is_other_edition}
 use Rattle.meter.specs.Card.{card_rows}
 use Rattle.lines.specs.Line.{sample, totals, first_field, count_of, card_of, line_of, content_rows}
-use Rattle.lines.specs.Reading.{is_same, size_of, first_in, others_in, numbers_in, are_numbers, is_misshapen, shape_rows, edition_in, due_kind, line_in, line_rows, later_rows, read_rows, answer_of, read_of}
-use Rattle.lines.specs.RoundTrip.{is_misshapen_due, Cause, other_edition, misshapen, no_number, card_row}
-use Rattle.lines.specs.Theorems.{RefusedExactly, EitherLetter}
+use Rattle.lines.specs.Reading.{is_same, size_of, first_in, others_in, numbers_in, are_numbers, shape_rows, edition_in, due_kind, line_in, line_rows, later_rows, read_rows, answer_of, read_of}
+use Rattle.lines.specs.RoundTrip.{is_no_line, is_misshapen_due, Cause, other_edition, misshapen, no_number, card_row}
+use Rattle.lines.specs.Theorems.{RefusedExactly}
 use Rattle.lines.specs.declared.line.EditionLine.{EditionLine}
 use Rattle.lines.specs.declared.line.MayCome.{MayCome}
+use Rattle.lines.specs.declared.line.Front.{Front}
 use Rattle.lines.specs.declared.line.MayCome.TheVariants as M
+use Rattle.lines.proofs.Same.{same_true}
+use Rattle.lines.proofs.Faults.{misshapen_first}
 
 -- a refusal is that of the rows
 of_rows : (line : EditionLine) (n : ℕ) (r : Refusal) (o : Result Unit Refusal) → answer_of line n o ≡ Err r → o ≡ Err r
@@ -59,11 +64,6 @@ module _ (bs : List ℕ) where
   other may = is_other_edition (edition_in may bs)
 
   -- the opening has no row but the edition's
-  misshapen_due : MayCome → Bool
-  misshapen_due M.Opening = false
-  misshapen_due (M.Card e) = is_misshapen_due (M.Card e) bs
-  misshapen_due (M.SampleOrEnd e) = is_misshapen_due (M.SampleOrEnd e) bs
-
   numbers_due : MayCome → Bool
   numbers_due M.Opening = true
   numbers_due (M.Card e) = are_numbers (others_in bs)
@@ -74,24 +74,33 @@ module _ (bs : List ℕ) where
   later (M.Card e) = first_of (card_rows (card_of (numbers_in bs)))
   later (M.SampleOrEnd e) = Ok tt
 
-  due_rows : (may : MayCome) → first_of (read_rows may bs) ≡ rows (other may) (misshapen_due may) (numbers_due may) (later may)
-  unfolding read_rows later_rows line_rows first_of shape_rows rows other misshapen_due numbers_due later edition_in line_of due_kind content_rows
+  -- where S and E may come, bytes whose first field is E begin with no line S, and the others with no line E
+  end_no_sample : (e : ℕ) → is_same (first_in bs) (first_field totals) ≡ true → is_no_line e sample bs ≡ true
+  unfolding is_no_line first_field is_same
+  end_no_sample e h = misshapen_first (first_field sample) (count_of e sample) bs (rw (same_true (first_in bs) (first_field totals) h) refl)
+
+  sample_no_end : (e : ℕ) → is_same (first_in bs) (first_field totals) ≡ false → is_no_line e totals bs ≡ true
+  unfolding is_no_line
+  sample_no_end e h = misshapen_first (first_field totals) (count_of e totals) bs h
+
+  due_rows : (may : MayCome) → first_of (read_rows may bs) ≡ rows (other may) (is_misshapen_due may bs) (numbers_due may) (later may)
+  unfolding read_rows later_rows line_rows first_of shape_rows rows other is_no_line numbers_due later edition_in line_of due_kind content_rows
   due_rows M.Opening = refl
   due_rows (M.Card e) = refl
-  due_rows (M.SampleOrEnd e) = go (is_same (first_in bs) (first_field totals))
+  due_rows (M.SampleOrEnd e) = go (is_same (first_in bs) (first_field totals)) refl
     where
-      go : (t : Bool) → cond (is_other_edition e) (Err R.Edition) (first_of (line_rows e (cond t totals sample) bs))
-          ≡ rows (is_other_edition e) (is_misshapen (first_field (cond t totals sample)) (count_of e (cond t totals sample)) bs) (are_numbers (others_in bs)) (Ok tt)
-      go true = refl
-      go false = refl
+      go : (t : Bool) → is_same (first_in bs) (first_field totals) ≡ t → cond (is_other_edition e) (Err R.Edition) (first_of (line_rows e (cond t totals sample) bs))
+          ≡ rows (is_other_edition e) (is_no_line e sample bs && is_no_line e totals bs) (are_numbers (others_in bs)) (Ok tt)
+      go true h = rw (end_no_sample e h) refl
+      go false h = rw (sample_no_end e h, and-true (is_no_line e sample bs)) refl
 
   -- a cause for each refusal
-  cause : (may : MayCome) (r : Refusal) → Which (other may) (misshapen_due may) (numbers_due may) (later may) r → Cause bs may r
-  unfolding other misshapen_due numbers_due later edition_in
+  cause : (may : MayCome) (r : Refusal) → Which (other may) (is_misshapen_due may bs) (numbers_due may) (later may) r → Cause bs may r
+  unfolding other numbers_due later edition_in
   cause may r (by_edition o) = other_edition o
   cause M.Opening r (by_shape o m) = absurd (let z : ◌≡◌ {A = ℕ} 0 1 = cc m in omega arith)
-  cause (M.Card e) r (by_shape o m) = misshapen (card_other e) o m
-  cause (M.SampleOrEnd e) r (by_shape o m) = misshapen (later_other e) o m
+  cause (M.Card e) r (by_shape o m) = misshapen o m
+  cause (M.SampleOrEnd e) r (by_shape o m) = misshapen o m
   cause M.Opening r (by_number o m n) = absurd (let z : ◌≡◌ {A = ℕ} 0 1 = cc n in omega arith)
   cause (M.Card e) r (by_number o m n) = no_number (card_other e) o m n
   cause (M.SampleOrEnd e) r (by_number o m n) = no_number (later_other e) o m n
@@ -100,29 +109,30 @@ module _ (bs : List ℕ) where
   cause (M.SampleOrEnd e) r (by_later k o m n h) = absurd (let z : ◌≡◌ {A = ℕ} 0 1 = cc h in omega arith)
 
   -- a refusal for each cause
-  refusal : (may : MayCome) (r : Refusal) → Cause bs may r → rows (other may) (misshapen_due may) (numbers_due may) (later may) ≡ Err r
-  unfolding rows other misshapen_due numbers_due later edition_in
+  refusal : (may : MayCome) (r : Refusal) → Cause bs may r → rows (other may) (is_misshapen_due may bs) (numbers_due may) (later may) ≡ Err r
+  unfolding rows other numbers_due later edition_in
   refusal may r (other_edition o) = rw o
-  refusal M.Opening r (misshapen q o m) = absurd (q refl)
-  refusal (M.Card e) r (misshapen q o m) = rw (o, m)
-  refusal (M.SampleOrEnd e) r (misshapen q o m) = rw (o, m)
+  refusal may r (misshapen o m) = rw (o, m)
   refusal M.Opening r (no_number q o m n) = absurd (q refl)
   refusal (M.Card e) r (no_number q o m n) = rw (o, m, n)
   refusal (M.SampleOrEnd e) r (no_number q o m n) = rw (o, m, n)
   refusal may r (card_row e k o m n h) = rw (o, m, n) h
 
-pub refused_exactly : RefusedExactly
+pub refused_exactly : (may : MayCome) (bs : List ℕ) (x : Result Front Refusal) → x ≡ read_of may bs → RefusedExactly may bs x
 unfolding read_of
-refused_exactly may bs r = (
-  λ e. cause bs may r (which _ _ _ _ r (sym (due_rows bs may) ∙ of_rows (line_in may bs) (size_of bs) r (first_of (read_rows may bs)) e)),
-  λ c. rows_of (line_in may bs) (size_of bs) r (first_of (read_rows may bs)) (due_rows bs may ∙ refusal bs may r c),
+refused_exactly may bs x e r = (
+  λ f. cause bs may r (which _ _ _ _ r (sym (due_rows bs may) ∙ of_rows (line_in may bs) (size_of bs) r (first_of (read_rows may bs)) (sym e ∙ f))),
+  λ c. e ∙ rows_of (line_in may bs) (size_of bs) r (first_of (read_rows may bs)) (due_rows bs may ∙ refusal bs may r c),
 )
 
-pub either_letter : EitherLetter
-unfolding due_kind
-either_letter e bs = go (is_same (first_in bs) (first_field totals)) refl
-  where
-    go : (t : Bool) → is_same (first_in bs) (first_field totals) ≡ t
-        → is_same (first_in bs) (first_field (cond t totals sample)) ≡ (t || is_same (first_in bs) (first_field sample))
-    go true e = e
-    go false e = refl
+-- and the number that is given is that of the rows
+answered_rows : (line : EditionLine) (n : ℕ) (o : Result Unit Refusal) → result_and (answer_of line n o) (Ok (tt {0})) ≡ o
+unfolding answer_of
+answered_rows line n (Ok u) = refl
+answered_rows line n (Err r) = refl
+
+pub read_number : (may : MayCome) (bs : List ℕ) (x : Result Front Refusal) → x ≡ read_of may bs → refusal_number x ≡ first_number (read_rows may bs)
+unfolding read_of
+read_number may bs x e =
+    answer_number x (read_rows may bs)
+    (ap (λ (y : Result Front Refusal). result_and y (Ok (tt {0}))) e ∙ answered_rows (line_in may bs) (size_of bs) (first_of (read_rows may bs)))

@@ -1,5 +1,4 @@
 -- Laws and theorems about the archive's lines.
-pub mod Cards
 pub mod Decimals
 pub mod Exactness
 mod Faults

@@ -2,7 +2,7 @@
 -- Assumes nothing.
 use mathlib.Core.Path.{◌≡◌, refl, sym, ap, ◌∙◌}
 use mathlib.Core.Bool.{Bool, true, false, cond}
-use mathlib.Core.List.{List}
+use mathlib.Core.List.{List, [], ◌∷◌}
 use Prim.Native.Nat.{ℕ, ◌≤◌}
 use native.Mathlib.Omega.{arith}
 use lib.ListN.{length, get_or, take}
@@ -15,7 +15,6 @@ use Rattle.meter.specs.declared.sample.Sample.{Sample}
 use Rattle.meter.proofs.Elements.{all as all-elements}
 use Rattle.lines.specs.Number.{some_from, some_nonzero}
 use Rattle.lines.specs.Line.{LineKind, opening, card, sample, totals, kind_of, first_field, all_numbers_of, numbers_of, lacked_of, count_of, in_edition, card_of, sample_from, line_of}
-use Rattle.lines.specs.Theorems.{LineOf, NumbersLine}
 use Rattle.lines.specs.Inside.Parts.{most_later}
 use Rattle.lines.specs.declared.line.Line.{Line}
 use Rattle.lines.specs.declared.line.Line.TheVariants as L
@@ -49,7 +48,7 @@ totals_few e = by (counts_cold e) (keeps_seconds e)
     by false false = omega arith
 
 -- LAW: the line of a line's kind and numbers is that line, where the fields that its edition lacks are zero
-pub line_of_lem : LineOf
+pub line_of_lem : (line : EditionLine) → some_nonzero (lacked_of line) ≡ false → line_of (kind_of line.line) (numbers_of line) ≡ line.line
 unfolding line_of kind_of count_of all_numbers_of numbers_of lacked_of card_of fields_of
 line_of_lem l h = by l.edition l.line h
   where
@@ -96,7 +95,7 @@ unfolding numbers_of lacked_of all_numbers_of kind_of line_of
 totals_line e ns c = shown_first ns 0 (count_of e totals) most_later (omega arith) (totals_few e)
 
 -- LAW: the numbers of the line of a kind are those that it was made of. The opening's is its edition.
-pub numbers_line : NumbersLine
+pub numbers_line : (e : ℕ) (k : LineKind) (ns : List ℕ) → (k ≡ opening → ns ≡ e ∷ []) → length ns ≡ count_of e k → numbers_of (in_edition e (line_of k ns)) ≡ ns
 unfolding numbers_of all_numbers_of kind_of line_of count_of card_of fields_of
 numbers_line e opening ns h c = sym (h refl)
 numbers_line e card ns h c = all-elements ns (count_of e card) c

@@ -8,14 +8,15 @@ use Prim.Native.Nat.{ℕ, zero, suc, ◌+◌, ◌-◌, ◌≤◌, ◌<◌}
 use native.Mathlib.Omega.{arith}
 use lib.Dec.{eqb}
 use lib.ListN.{length, get_or, take}
-use Rattle.std.specs.Prelude.{slice_index_or}
+use Rattle.std.specs.Prelude.{◌↔◌, slice_index_or}
 use Rattle.std.specs.Cmp.Lexicographic.{pointwise}
 use Rattle.quantity.proofs.Conditions.{inside}
 use Rattle.meter.specs.Edition.{last_edition, is_other_edition}
 use Rattle.lines.specs.Bytes.{line_feed, comma, digit_zero, archive_word}
 use Rattle.lines.specs.Line.{kind_of, first_field, count_of, all_numbers_of, numbers_of, after_commas, text_of, bytes_of, opening_in, opening_length}
 use Rattle.lines.specs.Reading.{is_same, opened_up_to, edition_in}
-use Rattle.lines.specs.Theorems.{OpeningBytes, OpeningLength, OpenedExactly}
+use Rattle.lines.specs.Theorems.{OpeningBytes}
+use Rattle.lines.specs.declared.line.MayCome.TheVariants as M
 use Rattle.lines.specs.declared.opening.TheConstants.{OPENINGS}
 use Rattle.lines.proofs.Decimals.{decimal_one}
 use Rattle.lines.proofs.Same.{same_true, same_eq, same_pointwise}
@@ -42,11 +43,11 @@ opening_listed (suc (suc zero)) l h = sym (digit_bytes 2 h)
 opening_listed (suc (suc (suc zero))) l h = sym (digit_bytes 3 h)
 opening_listed (suc (suc (suc (suc e)))) l h = absurd (omega arith)
 
-pub opening_bytes : OpeningBytes
-opening_bytes e h = digit_bytes e (edition_most e h)
-
-pub opening_length_lem : OpeningLength
+pub opening_length_lem : (e : ℕ) → is_other_edition e ≡ false → length (bytes_of (opening_in e)) ≡ opening_length
 opening_length_lem e h = digit_length e (edition_most e h)
+
+pub opening_bytes : OpeningBytes
+opening_bytes e h = (digit_bytes e (edition_most e h), opening_length_lem e h)
 
 -- bytes that begin with it, by the library's test
 pub opens_by : (bs w : List ℕ) (e : ℕ) → e ≤ last_edition → w ≡ bytes_of (opening_in e) →
@@ -106,7 +107,8 @@ module _ (bs : List ℕ) where
   opened_none zero h = refl
   opened_none (suc e) h = absurd (omega arith)
 
-pub opened_exactly : OpenedExactly
+-- LAW: an edition is found exactly where the bytes begin with its opening
+pub opened_exactly : (bs : List ℕ) (e : ℕ) → is_other_edition e ≡ false → (edition_in M.Opening bs ≡ e) ↔ (take opening_length bs ≡ bytes_of (opening_in e))
 unfolding edition_in
 opened_exactly bs e h = (forth (found_opens bs last_edition), back)
   where

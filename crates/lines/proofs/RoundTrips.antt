@@ -4,7 +4,7 @@ use Rattle.std.proofs.Common.{Result, Ok, Err}
 use Rattle.lines.specs.declared.line.Front.{Front}
 use mathlib.Core.Path.{◌≡◌, refl, sym, ap, ◌∙◌, subst}
 use mathlib.Core.Bool.{Bool, true, false, cond}
-use mathlib.Core.List.{List, [], ◌∷◌, ◌++◌, append-nil, map}
+use mathlib.Core.List.{List, [], ◌∷◌, ◌++◌, map}
 use mathlib.Core.Logic.{◌⊎◌, inl, inr}
 use Prim.Native.Nat.{ℕ, ◌+◌, ◌-◌, ◌^◌, ◌≤◌, ◌<◌}
 use native.Mathlib.Omega.{arith}
@@ -23,7 +23,7 @@ use Rattle.lines.specs.Line.{LineKind, opening, card, sample, totals, kind_of, f
 use Rattle.lines.specs.Reading.{front_of, is_same, size_of, fields_in, first_in, numbers_in, shape_rows, edition_in, due_kind, line_in, line_rows, later_rows, read_rows, answer_of, read_of, rest_of}
 use Rattle.lines.specs.Writing.{Writable, write_rows, place_of, written_of, put_at, buffer_after}
 use Rattle.lines.specs.RoundTrip.{told_in, told_of, WritesBack}
-use Rattle.lines.specs.Theorems.{CanBeWritten, WrittenThenRead, ReadThenWritten, ReadWithin, OneLine, SameBytes, NoOtherBegins}
+use Rattle.lines.specs.Theorems.{CanBeWritten, WrittenThenRead, ReadThenWritten, ReadWithin, OneLine}
 use Rattle.lines.specs.declared.line.Line.{Line}
 use Rattle.lines.specs.declared.line.Line.TheVariants as L
 use Rattle.lines.specs.declared.line.EditionLine.{EditionLine}
@@ -204,11 +204,15 @@ some_bytes : (line : EditionLine) → 1 ≤ length (bytes_of line)
 unfolding bytes_of text_of
 some_bytes line = simp length-append (omega arith)
 
-pub read_within : ReadWithin
+pub front_within : (may : MayCome) (bs : List ℕ) (f : Front) → read_of may bs ≡ Ok f → (1 ≤ f.size) × (f.size ≤ length bs)
 unfolding rest_of
-read_within may bs line n e =
-    let w = read_then_written may bs line n e in
-    (omega (arith, w.takes, some_bytes line), omega (arith, w.takes, sym (length-append (bytes_of line) (drop n bs)) ∙ ap length w.bytes))
+front_within may bs f e =
+    let w = read_then_written may bs f.line f.size e in
+    (omega (arith, w.takes, some_bytes f.line), omega (arith, w.takes, sym (length-append (bytes_of f.line) (drop f.size bs)) ∙ ap length w.bytes))
+
+pub read_within : (may : MayCome) (bs : List ℕ) (x : Result Front Refusal) → x ≡ read_of may bs → ReadWithin bs x
+read_within may bs (Ok f) e = front_within may bs f (sym e)
+read_within may bs (Err r) e = tt
 
 -- ---- a line's bytes are its own
 
@@ -248,11 +252,3 @@ one_line k l s t w v e =
     let rests : s ≡ t =
     sym (drop-append_seam (bytes_of k) s) ∙ ap (drop (length (bytes_of k))) e ∙ ap (λ (b : List ℕ). drop (length b) (bytes_of l ++ t)) bytes ∙ drop-append_seam (bytes_of l) t in
     (record { line = lines; edition = opening_numbers k l numbers lines }, rests)
-
-pub same_bytes : SameBytes
-same_bytes k l w v e = (one_line k l [] [] w v (ap (λ (b : List ℕ). b ++ []) e)).0
-
-pub no_other_begins : NoOtherBegins
-no_other_begins k l rest w v e =
-    let p = one_line k l [] rest w v (append-nil (bytes_of k) ∙ e) in
-    (p.0, sym p.1)

@@ -3,23 +3,24 @@
 use Rattle.std.proofs.Common.{Result, Ok, Err}
 use mathlib.Core.Path.{◌≡◌, refl, sym, ap, ◌∙◌}
 use mathlib.Core.Bool.{false, cond}
+use Rattle.std.specs.Prelude.{◌↔◌}
 use mathlib.Core.List.{[], ◌∷◌, ◌++◌}
 use Prim.Native.Nat.{ℕ, ◌+◌, ◌-◌, ◌≤◌, ◌<◌}
 use native.Mathlib.Omega.{arith}
 use lib.Dec.{ltb}
 use lib.ListN.{length}
 use borrow.Author.Tests.{lt-ltb, le-ltb, ltb-false}
-use Rattle.quantity.specs.Refusals.{row, first_of}
+use Rattle.quantity.specs.Refusals.{row, first_of, refusal_number, first_number}
 use Rattle.quantity.specs.declared.refusal.Refusal.{Refusal}
 use Rattle.quantity.specs.declared.refusal.Refusal.TheVariants as R
-use Rattle.quantity.proofs.Rows.{parts, none_applies, no_refusal, none_of_parts}
+use Rattle.quantity.proofs.Rows.{parts, none_applies, no_refusal, none_of_parts, answer_number}
 use Rattle.std.specs.Result.{result_and}
 use Rattle.quantity.proofs.Conditions.{neither}
 use Rattle.meter.specs.Edition.{is_other_edition}
 use Rattle.lines.specs.Number.{some_long, some_nonzero}
 use Rattle.lines.specs.Line.{numbers_of, lacked_of, bytes_of, content_rows}
 use Rattle.lines.specs.Writing.{text_rows, write_rows, place_of, written_of, Writable}
-use Rattle.lines.specs.Theorems.{CanBeWritten, WritableExactly}
+use Rattle.lines.specs.Theorems.{CanBeWritten, Fits, WrittenExactly}
 use Rattle.lines.specs.declared.line.EditionLine.{EditionLine}
 
 module _ (size at : ℕ) (line : EditionLine) where
@@ -92,21 +93,44 @@ pub text_room : (room : ℕ) (line : EditionLine) → CanBeWritten line → firs
 unfolding first_of
 text_room room line c = simp (c.short, c.lacked_zero)
 
-pub writable_exactly : WritableExactly
+-- LAW: a line is written so far exactly where it can be written and fits
+pub written_exactly : (size at : ℕ) (line : EditionLine) (x : Result ℕ Refusal) → x ≡ written_of size at line → WrittenExactly size at line x
 unfolding written_of place_of
-writable_exactly line = (forth, back)
+written_exactly size at line x e next = (forth, back)
   where
-    forth : Writable line → CanBeWritten line
-    forth w =
-        let p = next_place w.next (w.at + length (bytes_of line)) (first_of (write_rows w.size w.at line)) w.answers in
-        (unrefused w.size w.at line p.0).can
+    forth : x ≡ Ok next → Fits size at line next
+    forth f =
+        let p = next_place next (at + length (bytes_of line)) (first_of (write_rows size at line)) (sym e ∙ f) in
+        let u = unrefused size at line p.0 in
+        record { can = u.can; ends = p.1; room = omega (arith, p.1, u.room) }
 
-    -- room for its bytes from the front on is enough
-    back : CanBeWritten line → Writable line
-    back c =
-        let size : ℕ = length (bytes_of line) in
-        let accepted : first_of (write_rows size 0 line) ≡ Ok tt =
-        by_text size 0 line (omega arith) c.edition (no_refusal (content_rows line.line) c.content)
-        ∙ text_room (size - 0) line c
-        ∙ rw (le-ltb (size - 0) size (omega arith)) in
-        record { size = size; at = 0; next = 0 + size; answers = ap (place_of (0 + size)) accepted }
+    back : Fits size at line next → x ≡ Ok next
+    back f =
+        let within : at ≤ size = omega (arith, f.ends, f.room) in
+        let room : length (bytes_of line) ≤ size - at = omega (arith, f.ends, f.room) in
+        let accepted : first_of (write_rows size at line) ≡ Ok tt =
+        by_text size at line within f.can.edition (no_refusal (content_rows line.line) f.can.content)
+        ∙ text_room (size - at) line f.can
+        ∙ rw (le-ltb (size - at) (length (bytes_of line)) room) in
+        e ∙ ap (place_of (at + length (bytes_of line))) accepted ∙ ap (λ (n : ℕ). Ok n) (sym f.ends)
+
+-- room for its bytes from the front on is enough
+pub writable_exactly : (line : EditionLine) → Writable line ↔ CanBeWritten line
+writable_exactly line = (
+  λ w. ((written_exactly w.size w.at line (written_of w.size w.at line) refl w.next).0 w.answers).can,
+  λ c.
+      let n : ℕ = length (bytes_of line) in
+      record { size = n; at = 0; next = n; answers = (written_exactly n 0 line (written_of n 0 line) refl n).1 (record { can = c; ends = omega arith; room = omega arith }) },
+)
+
+-- and the number that is given is that of the rows
+placed_rows : (next : ℕ) (o : Result Unit Refusal) → result_and (place_of next o) (Ok (tt {0})) ≡ o
+unfolding place_of
+placed_rows next (Ok u) = refl
+placed_rows next (Err r) = refl
+
+pub write_number : (size at : ℕ) (line : EditionLine) (x : Result ℕ Refusal) → x ≡ written_of size at line → refusal_number x ≡ first_number (write_rows size at line)
+unfolding written_of
+write_number size at line x e =
+    answer_number x (write_rows size at line)
+    (ap (λ (y : Result ℕ Refusal). result_and y (Ok (tt {0}))) e ∙ placed_rows (at + length (bytes_of line)) (first_of (write_rows size at line)))

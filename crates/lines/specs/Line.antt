@@ -135,8 +135,8 @@ totals_from ns = record {
   cold_register = get_or ns 5 0;
 }
 
--- The line of a kind with given numbers, as many as it has, and 0 for a field that the edition lacks; `LineOf` and `NumbersLine` of
--- specs/Theorems.antt tie it to `numbers_of`.
+-- The line of a kind with given numbers, as many as it has, and 0 for a field that the edition lacks; `line_of_lem` and `numbers_line`
+-- of proofs/LineLaws.antt tie it to `numbers_of`.
 unfoldable pub line_of : LineKind → List ℕ → Line
 line_of opening ns = L.Opening
 line_of card ns = L.Card (card_of ns)

@@ -1,12 +1,12 @@
 -- What reader and writer have to do with each other, and what a refusal of the reader says: what the theorems of specs/Theorems.antt give.
-use Rattle.std.specs.Prelude.{◌≡◌, Bool, true, false, List, ◌++◌, ◌⊎◌, ℕ, ◌-◌, length, drop, Err}
+use Rattle.std.specs.Prelude.{◌≡◌, Bool, true, false, ◌&&◌, List, ◌++◌, ◌⊎◌, ℕ, ◌-◌, length, drop, Err}
 use Rattle.quantity.specs.Refusals.{first_of}
 use Rattle.quantity.specs.declared.refusal.Refusal.{Refusal}
 use Rattle.quantity.specs.declared.refusal.Refusal.TheVariants as R
 use Rattle.meter.specs.Edition.{is_other_edition}
 use Rattle.meter.specs.Card.{card_rows}
-use Rattle.lines.specs.Line.{first_field, count_of, card_of, bytes_of}
-use Rattle.lines.specs.Reading.{others_in, numbers_in, are_numbers, is_misshapen, due_kind, edition_in, front_of, read_of, rest_of}
+use Rattle.lines.specs.Line.{LineKind, card, sample, totals, first_field, count_of, card_of, bytes_of}
+use Rattle.lines.specs.Reading.{others_in, numbers_in, are_numbers, is_misshapen, edition_in, front_of, read_of, rest_of}
 use Rattle.lines.specs.Writing.{written_of, Writable}
 use Rattle.lines.specs.declared.line.Line.{Line}
 use Rattle.lines.specs.declared.line.Line.TheVariants as L
@@ -39,15 +39,21 @@ pub record WritesBack (may : MayCome) (bs : List ℕ) (line : EditionLine) (n : 
   pub writable : Writable line
   pub refused_only : (size at : ℕ) (r : Refusal) → written_of size at line ≡ Err r → (r ≡ R.PlaceBeyond) ⊎ (r ≡ R.Room)
 
--- the shape of the line that is due
+-- the bytes begin with no line of a kind in an edition
+unfoldable pub is_no_line : ℕ → LineKind → List ℕ → Bool
+is_no_line e k bs = is_misshapen (first_field k) (count_of e k) bs
+
+-- nor with any that may come there: where S and E may come, with neither. An opening is told by its edition alone.
 abbrev pub is_misshapen_due : MayCome → List ℕ → Bool
-is_misshapen_due may bs = is_misshapen (first_field (due_kind may bs)) (count_of (edition_in may bs) (due_kind may bs)) bs
+is_misshapen_due M.Opening bs = false
+is_misshapen_due (M.Card e) bs = is_no_line e card bs
+is_misshapen_due (M.SampleOrEnd e) bs = is_no_line e sample bs && is_no_line e totals bs
 
 -- What a refusal of the reader says: its own condition holds, and none before it. That of the edition, where the opening is due, says that the bytes
 -- begin with no edition's opening.
 pub data Cause (bs : List ℕ) : MayCome → Refusal → Type 0 where
   other_edition : {may : MayCome} → is_other_edition (edition_in may bs) ≡ true → Cause bs may R.Edition
-  misshapen : {may : MayCome} → (may ≡ M.Opening → ⊥) → is_other_edition (edition_in may bs) ≡ false → is_misshapen_due may bs ≡ true → Cause bs may R.Shape
+  misshapen : {may : MayCome} → is_other_edition (edition_in may bs) ≡ false → is_misshapen_due may bs ≡ true → Cause bs may R.Shape
   no_number : {may : MayCome} → (may ≡ M.Opening → ⊥) → is_other_edition (edition_in may bs) ≡ false → is_misshapen_due may bs ≡ false
       → are_numbers (others_in bs) ≡ false → Cause bs may R.Number
   card_row : (e : ℕ) (r : Refusal) → is_other_edition e ≡ false → is_misshapen_due (M.Card e) bs ≡ false → are_numbers (others_in bs) ≡ true

@@ -3,6 +3,7 @@
 
 mod fault;
 mod fields;
+pub mod laws;
 mod line;
 mod listed;
 mod number;

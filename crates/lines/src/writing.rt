@@ -1,11 +1,12 @@
-// The writer of one line (document 01, "Archive text"), in its edition.
+// The writer of one line, in its edition.
 ghost use Rattle.std.specs.Prelude.{◌≡◌, false, ◌||◌, map, ◌≤◌, length};
-ghost use Rattle.quantity.specs.Refusals.{first_of};
+ghost use Rattle.quantity.specs.Refusals.{first_number, first_of, refusal_number};
 ghost use Rattle.meter.specs.Edition.{is_other_edition};
 ghost use Rattle.lines.specs.Number.{decimal, some_long, some_nonzero};
 ghost use Rattle.lines.specs.Line.{after_commas, text_of, bytes_of, content_rows};
 ghost use Rattle.lines.specs.Inside.Parts.{most_numbers, put_front};
 ghost use Rattle.lines.specs.Writing.{text_rows, write_rows, written_of, buffer_after};
+ghost use Rattle.lines.specs.Theorems.{WrittenExactly};
 
 use crate::line::{EditionLine, Line};
 use crate::listed::{Listed, fields_length, first_field, has_from, numbers_of};
@@ -14,11 +15,13 @@ use crate::opening::put_opening;
 use meter::is_other_edition;
 use quantity::{Refusal, first_refusal};
 
-// Puts a line in its edition into buf from the place at on, and answers the next place.
+/// Puts a line in its edition into buf from the place at on, and answers the next place.
 #[tactic(auto, using(crate::proofs::WriterRows::unrefused), unfolding(crate::specs::Writing::written_of, crate::specs::Writing::place_of, crate::specs::Writing::buffer_after))]
 pub fn write_line(buf: &mut [u8], at: usize, what: EditionLine) -> Result<usize, Refusal>
     ensures answer { result ≡ written_of (length buf.old) at what }
     ensures buffer { buf.new ≡ buffer_after buf.old at (bytes_of what) result }
+    ensures number { refusal_number result ≡ first_number (write_rows (length buf.old) at what) }
+    ensures written_exactly { WrittenExactly (length buf.old) at what result }
 {
     write_refusal(buf.len(), at, what)?;
     Ok(at + put_line(&mut buf[at..], what))
