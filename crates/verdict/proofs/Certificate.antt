@@ -9,17 +9,17 @@ use native.Mathlib.Omega.{arith}
 use Rattle.quantity.specs.Divisors.{reduced}
 use Rattle.quantity.specs.Fractions.{◌over◌, times, Represents}
 use Rattle.quantity.specs.Refusals.{row, first_of}
-use Rattle.quantity.proofs.Fractions.{doubled, above_zero_too}
+use Rattle.quantity.proofs.Fractions.{doubled}
 use Rattle.std.specs.Result.{result_and}
 use Rattle.quantity.proofs.Rows.{parts}
-use Rattle.quantity.proofs.LowestTerms.{reduced_represents, reduced_exactly, same_reduced, whole_reduced}
+use Rattle.quantity.proofs.LowestTerms.{reduced_represents, reduced_exactly, is_reduced, same_reduced}
 use Rattle.quantity.specs.declared.fraction.Fraction.{Fraction}
 use Rattle.quantity.specs.declared.refusal.Refusal.{Refusal}
 use Rattle.quantity.specs.declared.refusal.Refusal.TheVariants as R
 use Rattle.verdict.specs.Certificate.{error_limit_of, comparison_of}
 use Rattle.verdict.specs.Limit.{figures_of, part_limit, limit_at_stage, limit_of}
 use Rattle.verdict.specs.Rows.{point_rows, value_rows, Admitted}
-use Rattle.verdict.specs.Theorems.{LimitExactly, WholePercent, LimitAboveZero, compared_with, FromPair}
+use Rattle.verdict.specs.Theorems.{LimitExactly, compared_with, FromPair}
 use Rattle.verdict.specs.Verdict.{passes, answer, refused_or, verdict_of}
 use Rattle.verdict.specs.Inside.Admitted.{point_of}
 use Rattle.verdict.specs.declared.admitted.AdmittedPoint.{AdmittedPoint}
@@ -29,31 +29,22 @@ use Rattle.verdict.specs.declared.kinds.Stage.{Stage}
 use Rattle.verdict.specs.declared.kinds.Stage.TheVariants.{Verification, InService}
 use Rattle.verdict.specs.declared.point.TestPoint.{TestPoint}
 use Rattle.verdict.proofs.Comparisons.{of_values, equal_comparisons}
-use Rattle.verdict.proofs.Positive.{limit_is_fraction, limit_above}
+use Rattle.verdict.proofs.Positive.{limit_is_fraction}
 use Rattle.verdict.proofs.Verdicts.{accepted}
 
 -- the limit of a test point's class
 abbrev limit_at : TestPoint → Fraction
 limit_at p = limit_of (figures_of p.class) p
 
-pub limit_exactly : LimitExactly
+pub limit_exactly : (p : TestPoint) (y : Result Fraction Refusal) → y ≡ error_limit_of p → LimitExactly p y
 unfolding error_limit_of refused_or
-limit_exactly p r = (
+limit_exactly p y same r = (
   λ e.
-      let s = accepted (first_of (point_rows p)) (reduced (limit_at p)) r e in
-      let m = (reduced_exactly r (limit_at p) (limit_is_fraction _ p s.0)).0 (sym s.1) in
+      let s = accepted (first_of (point_rows p)) (reduced (limit_at p)) r (sym same ∙ e) in
+      let m = (reduced_exactly (limit_at p) _ refl r (limit_is_fraction _ p s.0)).0 (sym s.1) in
       (s.0, m.0, m.1),
-  λ h. simp (h.0, (reduced_exactly r (limit_at p) (limit_is_fraction _ p h.0)).1 (h.1, h.2)),
+  λ h. same ∙ simp (h.0, is_reduced r (limit_at p) (limit_is_fraction _ p h.0) h.1 h.2),
 )
-
-pub whole_percent : WholePercent
-unfolding error_limit_of refused_or
-whole_percent p n a e = simp (a, whole_reduced (limit_at p) n (limit_is_fraction _ p a) e)
-
-pub limit_above_zero : LimitAboveZero
-limit_above_zero p r e =
-    let h = (limit_exactly p r).0 e in
-    above_zero_too r (limit_at p) h.1 (limit_above p h.0)
 
 -- the stage, for any fraction that equals the limit at verification
 abbrev by_stage : Stage → Fraction → Fraction

@@ -2,14 +2,14 @@
 -- Assumes nothing.
 use mathlib.Core.Path.{◌≡◌, sym, ap, subst}
 use mathlib.Core.Bool.{Bool, cond}
-use Prim.Native.Nat.{ℕ, ◌+◌, ◌*◌, ◌<◌}
+use Prim.Native.Nat.{ℕ, ◌+◌, ◌*◌, ◌≤◌, ◌<◌}
 use native.Mathlib.Nat.{mul-le-mul}
 use native.Mathlib.Omega.{arith}
 use lib.Dec.{lit≤}
 use borrow.Author.Tests.{le-leb}
 use Rattle.quantity.specs.Fractions.{plus, times, smaller, AtMost, Represents}
 use Rattle.verdict.specs.Limit.{hundredths, figures_of, calculator_limit, pair_limit, flow_sensor_sum, flow_sensor_limit, complete_limit}
-use Rattle.verdict.specs.Theorems.{formula, CompleteFormula, Class1, Class2, Class3}
+use Rattle.verdict.specs.Theorems.{formula, HasFormula, CompleteFormula}
 use Rattle.quantity.specs.declared.fraction.Fraction.{Fraction}
 use Rattle.verdict.specs.declared.class.Figures.{Figures}
 use Rattle.verdict.specs.declared.point.TestPoint.{TestPoint}
@@ -37,20 +37,12 @@ of_figures f p k e dh qh h =
     subst (λ (x : Fraction). Represents (formula k f.factor p) (plus (plus (calculator_limit p) (pair_limit p)) x)) (uncapped f p h)
     (of_sums f p k e dh qh)
 
-pub complete_formula : CompleteFormula
-complete_formula class l m p a h =
+by_class : (class : ℕ) → 1 ≤ class → class ≤ 3 → HasFormula class (class + 1) (figures_of class).factor
+by_class class l m p a h =
     let r = ranges p a in
     let c = of_class class l m in
     of_figures (figures_of class) p (class + 1) (omega arith) (omega arith) (omega arith) ((capped_at_5 _ _ c.cap_of).1 h)
 
-pub class_1 : Class1
+pub complete_formula : CompleteFormula
 unfolding figures_of
-class_1 = complete_formula 1 (lit≤ tt) (lit≤ tt)
-
-pub class_2 : Class2
-unfolding figures_of
-class_2 = complete_formula 2 (lit≤ tt) (lit≤ tt)
-
-pub class_3 : Class3
-unfolding figures_of
-class_3 = complete_formula 3 (lit≤ tt) (lit≤ tt)
+complete_formula = (by_class 1 (lit≤ tt) (lit≤ tt), by_class 2 (lit≤ tt) (lit≤ tt), by_class 3 (lit≤ tt) (lit≤ tt))

@@ -1,48 +1,34 @@
 -- The comparison of an error with a limit of any two numbers.
 -- Assumes nothing.
-use mathlib.Core.Path.{◌≡◌}
-use mathlib.Core.Bool.{true, or-false}
-use mathlib.Core.Logic.{◌↔◌}
-use Prim.Native.Nat.{ℕ, ◌*◌, ◌≤◌}
+use mathlib.Core.Path.{◌≡◌, sym, ◌∙◌}
+use mathlib.Core.Bool.{or-false}
+use Prim.Native.Nat.{ℕ}
 use native.Mathlib.Omega.{arith}
-use borrow.Author.Tests.{le-leb, leb-true, ne_eqb}
-use Rattle.quantity.specs.Fractions.{whole, IsFraction, times, AtMost}
-use Rattle.quantity.specs.Refusals.{first_of}
+use borrow.Author.Tests.{ne_eqb}
+use Rattle.std.specs.Prelude.{Result}
+use Rattle.quantity.specs.Fractions.{IsFraction}
 use Rattle.quantity.specs.declared.fraction.Fraction.{Fraction}
+use Rattle.quantity.specs.declared.refusal.Refusal.{Refusal}
 use Rattle.verdict.specs.Certificate.{comparison_of}
 use Rattle.verdict.specs.Rows.{value_outside, incomparable, comparison_rows}
 use Rattle.verdict.specs.Theorems.{ComparedExactly, EqualComparisons}
-use Rattle.verdict.specs.Verdict.{absolute_error, passes, refused_or}
-use Rattle.quantity.proofs.Rows.{none_applies, no_refusal}
-use Rattle.verdict.proofs.Passing.{equal_limits}
-use Rattle.verdict.proofs.Verdicts.{only}
+use Rattle.verdict.specs.Verdict.{passes}
+use Rattle.verdict.specs.declared.bench.Verdict.{Verdict}
+use Rattle.verdict.proofs.Passing.{within, by_products, equal_limits}
+use Rattle.verdict.proofs.Verdicts.{pass_exactly}
 
 -- of a fraction, only the two values are asked for
 pub of_values : (l : Fraction) (i x : ℕ) → IsFraction l → incomparable l i x ≡ value_outside i x
 unfolding incomparable
 of_values l i x p = simp (ne_eqb l.denominator 0 (omega arith), or-false)
 
--- a pass, without the fractions
-pub within : (l : Fraction) (i x : ℕ) → (passes l i x ≡ true) ↔ (absolute_error i x * 100 * l.denominator ≤ l.numerator * x)
-unfolding passes times
-within l i x =
-    let error = whole (absolute_error i x * 100) in
-    let most = times l (whole x) in (
-      λ e.
-          let h : AtMost error most = leb-true _ _ e in
-          omega (arith, h),
-      λ h. let g : AtMost error most = omega (arith, h) in
-          le-leb _ _ g,
+pub compared_exactly : (l : Fraction) (i x : ℕ) (y : Result Verdict Refusal) → y ≡ comparison_of l i x → ComparedExactly l i x y
+unfolding comparison_of
+compared_exactly l i x y same =
+    let exactly = pass_exactly (comparison_rows l i x) (passes l i x) in (
+      λ e. let h = exactly.0 (sym same ∙ e) in (h.0, (by_products l i x).0 ((within l i x).0 h.1)),
+      λ h. same ∙ exactly.1 (h.0, (within l i x).1 ((by_products l i x).1 h.1)),
     )
-
-pub compared_exactly : ComparedExactly
-unfolding comparison_of refused_or
-compared_exactly l i x = (
-  λ e.
-      let s = only (first_of (comparison_rows l i x)) (passes l i x) e in
-      ((none_applies (comparison_rows l i x) s.0).0, (within l i x).0 s.1),
-  λ h. simp (no_refusal (comparison_rows l i x) (h.0, tt), (within l i x).1 h.1),
-)
 
 pub equal_comparisons : EqualComparisons
 unfolding comparison_of

@@ -29,6 +29,8 @@ unfolding plus
 
 pub at_most_10 : AtMost10
 unfolding complete_limit
-at_most_10 class l m p a =
-    let r = (ranges p a).difference.difference.0 in
-    10-in-all _ (sums _ _ _ _ (sums _ _ _ _ (of_calculator p r) (of_pair p r)) (of_flow_sensor class l m p))
+at_most_10 p a =
+    let r = ranges p a in
+    let d = r.difference.difference.0 in
+    let flow = of_flow_sensor p.class r.class.0 r.class.1 p in
+    10-in-all _ (sums _ _ _ _ (sums _ _ _ _ (of_calculator p d) (of_pair p d)) flow)

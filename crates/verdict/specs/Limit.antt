@@ -2,7 +2,7 @@
 -- the limits in percent are: calculator 0.5 + Δmin/Δ; pair 0.5 + 3×Δmin/Δ; flow sensor 1 + 0.01×qp/q, 2 + 0.02×qp/q,
 -- 3 + 0.05×qp/q for classes 1, 2, 3, at most 5 (a cap fixed here); complete is the sum of the three. In service, twice
 -- the result." They are asked for only where no row refuses, and there their lower numbers are above zero
--- (`LimitIsFraction` of specs/Theorems.antt).
+-- (`limit_is_fraction` of proofs/Positive.antt).
 use Rattle.std.specs.Prelude.{ℕ, ◌*◌, cond, eqb}
 use Rattle.quantity.specs.Fractions.{◌over◌, whole, plus, times, smaller}
 use Rattle.quantity.specs.declared.fraction.Fraction.{Fraction}

@@ -1,7 +1,10 @@
 // The verdict of the test bench on an indicated value: the comparison of its error with a limit, and the verdict at a test point, which
 // calls the limit and the comparison (document 01, "Error verdict"; document 02, request 4).
 ghost use Rattle.std.specs.Prelude.{◌≡◌};
+ghost use Rattle.quantity.specs.Refusals.{refusal_number, first_number};
 ghost use Rattle.verdict.specs.Certificate.{comparison_of};
+ghost use Rattle.verdict.specs.Rows.{comparison_rows, verdict_rows};
+ghost use Rattle.verdict.specs.Theorems.{ComparedExactly, PassesExactly};
 ghost use Rattle.verdict.specs.Verdict.{verdict_of};
 
 use crate::limit::error_limit;
@@ -16,13 +19,22 @@ pub enum Verdict {
     Fail,
 }
 
-// Whether the indicated value's error lies within a limit in percent, reduced or not, or 55, "also for a zero denominator".
-#[tactic(auto, unfolding(crate::specs::Certificate::comparison_of, crate::specs::Rows::incomparable, crate::specs::Verdict::refused_or, quantity::specs::Refusals::first_of))]
+/// Whether the indicated value's error lies within a limit in percent, reduced or not, or 55, which a zero denominator is refused with, too.
 pub fn compare_error(
     limit: Fraction,
     indicated: u64,
     conventional_true: u64,
 ) -> Result<Verdict, Refusal>
+    ensures answer { result ≡ comparison_of limit indicated conventional_true }
+    ensures number { refusal_number result ≡ first_number (comparison_rows limit indicated conventional_true) }
+    ensures compared_exactly { ComparedExactly limit indicated conventional_true result }
+{
+    compared(limit, indicated, conventional_true)
+}
+
+// Its answer alone, by the cases in which it comes.
+#[tactic(auto, unfolding(crate::specs::Certificate::comparison_of, crate::specs::Rows::incomparable, crate::specs::Verdict::refused_or, quantity::specs::Refusals::first_of))]
+fn compared(limit: Fraction, indicated: u64, conventional_true: u64) -> Result<Verdict, Refusal>
     ensures { result ≡ comparison_of limit indicated conventional_true }
 {
     match Values::new(indicated, conventional_true) {
@@ -37,14 +49,15 @@ pub fn compare_error(
     }
 }
 
-// Whether the indicated value passes at the test point, or the first of the refusals 50 to 55.
-#[tactic(auto, using(crate::proofs::Certificate::of_limit))]
+/// Whether the indicated value passes at the test point, or the first of the refusals 50 to 55.
 pub fn error_verdict(
     point: TestPoint,
     indicated: u64,
     conventional_true: u64,
 ) -> Result<Verdict, Refusal>
-    ensures { result ≡ verdict_of point indicated conventional_true }
+    ensures answer { result ≡ verdict_of point indicated conventional_true }
+    ensures number { refusal_number result ≡ first_number (verdict_rows point indicated conventional_true) }
+    ensures passes_exactly { PassesExactly point indicated conventional_true result }
 {
     let limit = error_limit(point)?;
     compare_error(limit, indicated, conventional_true)

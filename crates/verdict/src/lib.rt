@@ -6,6 +6,7 @@ mod admitted;
 mod bench;
 mod class;
 mod kinds;
+pub mod laws;
 mod limit;
 mod point;
 mod values;

@@ -2,8 +2,11 @@
 // "Error verdict"; document 02, request 4).
 ghost use Rattle.std.specs.Prelude.{◌≡◌, ◌+◌, ◌*◌, ◌^◌, ◌≤◌, min};
 ghost use Rattle.quantity.specs.Fractions.{Represents};
+ghost use Rattle.quantity.specs.Refusals.{refusal_number, first_number};
 ghost use Rattle.verdict.specs.Certificate.{error_limit_of};
 ghost use Rattle.verdict.specs.Limit.{figures_of, part_limit, limit_of};
+ghost use Rattle.verdict.specs.Rows.{point_rows};
+ghost use Rattle.verdict.specs.Theorems.{LimitExactly};
 ghost use Rattle.verdict.specs.Inside.Admitted.{point_of};
 ghost use Rattle.verdict.specs.Inside.Kinds.{class_number};
 
@@ -74,10 +77,11 @@ impl AdmittedPoint {
     }
 }
 
-// The limit of a test point, or the first of the refusals 50 to 54.
-#[tactic(auto, using(crate::proofs::Certificate::printed), unfolding(crate::specs::Certificate::error_limit_of, crate::specs::Verdict::refused_or))]
+/// The limit of a test point in percent, in lowest terms, or the first of the refusals 50 to 54.
 pub fn error_limit(point: TestPoint) -> Result<Fraction, Refusal>
-    ensures { result ≡ error_limit_of point }
+    ensures answer { result ≡ error_limit_of point }
+    ensures number { refusal_number result ≡ first_number (point_rows point) }
+    ensures limit_exactly { LimitExactly point result }
 {
     let admitted = AdmittedPoint::try_from(point)?;
     Ok(admitted.limit().reduced())

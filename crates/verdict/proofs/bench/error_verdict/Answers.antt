@@ -1,10 +1,35 @@
 -- A refusal of the limit is the verdict's. The check does not close this by `using(of_refusal)`: it does not look into the exit of a `?`.
-use Rattle.std.proofs.Common.{sym, ◌∙◌}
+use Rattle.std.proofs.Common.{rules, ap, sym, ◌∙◌}
 use Rattle.std.proofs.lemmas.Result.{err_from_is_err_and}
-use Rattle.verdict.proofs.Certificate.{of_refusal}
+use Rattle.quantity.specs.Refusals.{refusal_number}
+use Rattle.verdict.specs.Rows.{verdict_rows}
+use Rattle.verdict.specs.Verdict.{verdict_of}
+use Rattle.verdict.proofs.Certificate.{of_limit, of_refusal}
+use Rattle.verdict.proofs.Verdicts.{number_of_rows, passes_exactly}
 use Rattle.verdict.proofs.bench.error_verdict.Goals as goal
 
-pub returns-in_err-limit : goal.returns-in_err-limit
-returns-in_err-limit c =
+pub returns-in_err-limit-clause-answer : goal.returns-in_err-limit-clause-answer
+returns-in_err-limit-clause-answer c =
     let p = err_from_is_err_and c.from_residual.result c.from_residual.ensures.1 in
-    rw (p.1, p.2) (sym (of_refusal c.args.point _ _ _ (sym c.error_limit.ensures ∙ c.in_err-limit.was)))
+    rw (p.1, p.2) (sym (of_refusal c.args.point _ _ _ (sym c.error_limit.ensures.answer ∙ c.in_err-limit.was)))
+
+pub returns-in_err-limit-clause-number : goal.returns-in_err-limit-clause-number
+unfolding verdict_of
+returns-in_err-limit-clause-number c =
+    let a = c.args in
+    ap refusal_number (returns-in_err-limit-clause-answer c) ∙ number_of_rows (verdict_rows a.point a.indicated a.conventional_true) _
+
+pub returns-in_err-limit-clause-passes_exactly : goal.returns-in_err-limit-clause-passes_exactly
+returns-in_err-limit-clause-passes_exactly c = passes_exactly c.args.point _ _ _ (returns-in_err-limit-clause-answer c)
+
+pub returns-clause-answer : goal.returns-clause-answer
+returns-clause-answer c = search (rules, of_limit)
+
+pub returns-clause-number : goal.returns-clause-number
+unfolding verdict_of
+returns-clause-number c =
+    let a = c.args in
+    ap refusal_number (returns-clause-answer c) ∙ number_of_rows (verdict_rows a.point a.indicated a.conventional_true) _
+
+pub returns-clause-passes_exactly : goal.returns-clause-passes_exactly
+returns-clause-passes_exactly c = passes_exactly c.args.point _ _ _ (returns-clause-answer c)
