@@ -5,6 +5,7 @@ pub mod NewFiles
 pub mod Conversions
 pub mod Back
 pub mod Staying
+mod Promises
 mod Agreement
 mod Passing
 mod Buffers

@@ -1,10 +1,11 @@
-// Files moved between editions 2 and 3 (document 02, request 6).
+// Files moved between editions 2 and 3.
 #![tactic(auto)]
 
 mod answer;
 mod converting;
 mod direction;
 mod examining;
+pub mod laws;
 mod putting;
 mod running;
 
