@@ -26,7 +26,7 @@ use Rattle.lines.proofs.Splitting.{lacks}
 use Rattle.archive.specs.Archive.{IsArchive}
 use Rattle.archive.specs.Audit.{audit_of}
 use Rattle.archive.specs.Report.{of_audited, end_state, over_limit, report_of, line_of, ArchiveExactly, OverLimitExactly}
-use Rattle.archive.proofs.Acceptance.{accepts_exactly}
+use Rattle.archive.proofs.Acceptance.{is_archive, archive_accepted}
 use Rattle.archive.proofs.Numbers.{audit_numbers}
 
 -- by the length of the input
@@ -80,7 +80,7 @@ same_number n line k place e =
 module _ (limit : ℕ) (bs : List ℕ) (l : OutputLine) (e : l ≡ line_of (report_of limit bs)) where
   of_answer : (x : Result Meter RefusedAt) → audit_of bs ≡ x → get_or (line_of (of_audited x)).bytes 0 0 ≡ letter_r → (z : Meter) × IsArchive bs z
   unfolding of_audited
-  of_answer (Ok z) a h = (z, (accepts_exactly bs z).0 a)
+  of_answer (Ok z) a h = (z, is_archive bs z a)
   of_answer (Err r) a h = absurd (not_r (number_of r.refusal) r.line h)
 
   archive_by : (t : Bool) → ltb limit (length bs) ≡ t → get_or (line_of (report_of limit bs)).bytes 0 0 ≡ letter_r → (length bs ≤ limit) × ((z : Meter) × IsArchive bs z)
@@ -92,7 +92,7 @@ module _ (limit : ℕ) (bs : List ℕ) (l : OutputLine) (e : l ≡ line_of (repo
   pub archive_exactly : ArchiveExactly limit bs l
   unfolding of_audited
   archive_exactly = record {
-    end_line = λ z h k. e ∙ ap line_of (within limit bs h ∙ ap of_audited ((accepts_exactly bs z).1 k));
+    end_line = λ z h k. e ∙ ap line_of (within limit bs h ∙ ap of_audited (archive_accepted bs z k));
     no_other = λ h. archive_by (ltb limit (length bs)) refl (sym (ap (λ (x : OutputLine). get_or x.bytes 0 0) e) ∙ h);
   }
 

@@ -5,5 +5,6 @@ pub mod Samples
 pub mod Head
 pub mod Audit
 pub mod Archive
+pub mod Refused
 pub mod Report
 pub mod Theorems

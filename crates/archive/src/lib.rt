@@ -3,6 +3,7 @@
 
 mod auditing;
 mod head;
+pub mod laws;
 mod places;
 mod printing;
 mod samples;
