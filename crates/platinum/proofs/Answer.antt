@@ -1,6 +1,6 @@
--- What the temperature operation's definition amounts to: the laws that callers cite, whatever the search inside.
+-- What the temperature operation's definition amounts to, whatever the search inside: a temperature is answered exactly where there is one.
 -- Assumes nothing.
-use mathlib.Core.Path.{◌≡◌, refl, ◌∙◌, ap, subst}
+use mathlib.Core.Path.{◌≡◌, refl, sym, ◌∙◌, ap, subst}
 use mathlib.Core.List.{◌∷◌}
 use mathlib.Core.Bool.{Bool, true, false, cond}
 use Prim.Native.Nat.{ℕ, ◌*◌, ◌≤◌}
@@ -10,21 +10,23 @@ use lib.Dec.{leb, ltb, lit≤}
 use borrow.Author.Tests.{le-ltb, le-leb, ltb-false, leb-true}
 use Rattle.std.specs.Prelude.{Result, Ok, Err}
 use Rattle.quantity.specs.Largest.{largest}
-use Rattle.quantity.specs.Refusals.{row, first_of}
+use Rattle.quantity.specs.Refusals.{row, first_of, first_number, refusal_number}
 use Rattle.quantity.proofs.Largest.{bounded, holds, at_least}
+use Rattle.quantity.proofs.Rows.{first_number_lem}
 use Rattle.quantity.specs.declared.units.Temperature.{Temperature}
 use Rattle.quantity.specs.declared.refusal.Refusal.TheVariants.{SensorKind}
 use Rattle.quantity.specs.declared.range.Position.{Position}
 use Rattle.quantity.specs.declared.range.Position.TheVariants.{Alone}
 use Rattle.quantity.specs.declared.range.End.TheVariants.{Low, High}
-use Rattle.platinum.specs.Sensor.{resistance_of, sensor_of, is_unknown}
+use Rattle.platinum.specs.Sensor.{sensor_of, is_unknown}
 use Rattle.quantity.specs.Units.{last_hundredth}
 use Rattle.platinum.specs.Temperature.{W, scaled, of_resistance, of_kind, temperature_of, HasTemperature, IsTemperature}
 use Rattle.platinum.specs.Refusal.{unmeasured_refusal, refusal_of, end_rows, alone_rows}
-use Rattle.platinum.specs.Theorems.{Answered, Exists, Unique, Exactly, WithinRange, LargerReading, FirstRow}
+use Rattle.platinum.specs.Theorems.{MeasuredExactly, LargerReading}
 use Rattle.platinum.specs.declared.sensor.Sensor.{Sensor}
 use Rattle.platinum.specs.declared.reading.Unmeasured.{Unmeasured}
-use Rattle.platinum.specs.declared.reading.Unmeasured.TheVariants.{NoSensor, Outside}
+use Rattle.platinum.specs.declared.reading.Unmeasured.TheVariants.{Outside}
+use Rattle.platinum.proofs.SensorKinds.{Named, named}
 
 module _ (n r : ℕ) where
   test : ℕ → Bool
@@ -40,7 +42,7 @@ module _ (n r : ℕ) where
   }
 
 -- there is at most one
-pub unique : Unique
+unique : (n r s t : ℕ) → IsTemperature n r s → IsTemperature n r t → s ≡ t
 unique n r s t h g = le_antisymm (g.largest_one s h.in_range h.reached) (h.largest_one t g.in_range g.reached)
 
 -- what an answer `Ok t` says, by the two tests of `of_resistance`
@@ -54,7 +56,7 @@ by_tests n r t false false p q e =
     (record { from = from; to = ltb-false (n * W last_hundredth) (scaled r) q }, subst (λ (x : Temperature). IsTemperature n r x.0) same (is_temperature n r from))
 
 -- an answered temperature is that of r, and r lies in the range
-pub answered : Answered
+answered : (n r : ℕ) (t : Temperature) → of_resistance n r ≡ Ok t → HasTemperature n r × IsTemperature n r t.0
 unfolding of_resistance test
 answered n r t e = by_tests n r t _ _ refl refl e
 
@@ -62,33 +64,29 @@ largest_is : (n r : ℕ) → HasTemperature n r → of_resistance n r ≡ Ok (re
 unfolding of_resistance test
 largest_is n r h = simp (le-ltb (scaled r) (n * W 0) h.from, le-ltb (n * W last_hundredth) (scaled r) h.to)
 
--- in the range there is an answer, and it is whichever t is the temperature of r
-pub exists : Exists
-exists n r h = (_, largest_is n r h)
-
-pub exactly : Exactly
+-- in the range the answer is whichever t is the temperature of r
+exactly : (n r : ℕ) (t : Temperature) → HasTemperature n r → IsTemperature n r t.0 → of_resistance n r ≡ Ok t
 exactly n r t h g = largest_is n r h ∙ ap (λ (x : ℕ). Ok (record { 0 = x })) (unique n r _ _ (is_temperature n r h.from) g)
 
--- a larger reading of the same sensor never has a smaller temperature
-pub no_smaller : (n r r' s t : ℕ) → r ≤ r' → IsTemperature n r s → IsTemperature n r' t → s ≤ t
-no_smaller n r r' s t h f g = g.largest_one s f.in_range (omega (arith, f.reached))
+-- so of a sensor kind a temperature is answered exactly where there is one; of no kind there is none
+by_name : (n r : ℕ) (k : Result Sensor Unmeasured) → Named k n → MeasuredExactly n r (of_kind k r)
+by_name n r (Ok s) h = subst (λ (x : ℕ). MeasuredExactly n r (of_resistance x r)) (sym h.0)
+    (λ t. (λ e. let a = answered n r t e in (h.1, a.0, a.1), λ g. exactly n r t g.1 g.2))
+by_name n r (Err u) h = λ t. (λ e. cc, λ g. absurd (h.1 g.0))
 
--- the same of the operation: of a card's sensor field
-by_kind : (k : Result Sensor Unmeasured) (r : ℕ) (t : Temperature) → of_kind k r ≡ Ok t → (s : Sensor) × (k ≡ Ok s) × IsTemperature (resistance_of s) r t.0
-by_kind (Ok s) r t e = (s, refl, (answered (resistance_of s) r t e).1)
-by_kind (Err u) r t e = cc
-
-pub within_range : WithinRange
+pub measured_exactly : (n r : ℕ) (m : Result Temperature Unmeasured) → m ≡ temperature_of n r → MeasuredExactly n r m
 unfolding temperature_of
-within_range field r t e = (by_kind (sensor_of field) r t e).2.in_range
+measured_exactly n r m e = subst (MeasuredExactly n r) (sym e) (by_name n r (sensor_of n) (named n))
+
+-- no answer passes 180.00 °C
+pub within_range : (field r : ℕ) (t : Temperature) → temperature_of field r ≡ Ok t → t.0 ≤ last_hundredth
+within_range field r t e = ((measured_exactly field r _ refl t).0 e).2.in_range
 
 pub larger_reading : LargerReading
-unfolding temperature_of
-larger_reading field r r' s t h e f =
-    let a = by_kind (sensor_of field) r s e in
-    let b = by_kind (sensor_of field) r' t f in
-    let same : ◌≡◌ {A = Sensor} b.0 a.0 = cc (a.1, b.1) in
-    no_smaller (resistance_of a.0) r r' s.0 t.0 h a.2 (subst (λ (x : Sensor). IsTemperature (resistance_of x) r' t.0) same b.2)
+larger_reading n r r' s t h e f =
+    let a = (measured_exactly n r _ refl s).0 e in
+    let b = (measured_exactly n r' _ refl t).0 f in
+    b.2.largest_one s.0 a.2.in_range (omega (arith, a.2.reached))
 
 -- the rows say what an answer's refusal is
 abbrev RowsSay : Position → Result Temperature Unmeasured → Bool → Type 0
@@ -100,27 +98,15 @@ kind_rows p true high t = refl
 kind_rows p false true t = refl
 kind_rows p false false t = refl
 
-pub by_rows : (p : Position) (s : Sensor) (r : ℕ) → RowsSay p (of_resistance (resistance_of s) r) false
-unfolding of_resistance test
-by_rows p s r =
-    let n = resistance_of s in
-    kind_rows p (ltb (scaled r) (n * W 0)) (ltb (n * W last_hundredth) (scaled r)) (record { 0 = largest (test n r) last_hundredth })
-
--- a field that names no kind is refused for that
-pub no_sensor : (field : ℕ) (u : Unmeasured) → sensor_of field ≡ Err u → u ≡ NoSensor
-unfolding sensor_of
-no_sensor field u e = grind arith
-
 -- the refusal of an answer is that of the first row that applies
-of_field : (p : Position) (k : Result Sensor Unmeasured) (r : ℕ) → ((u : Unmeasured) → k ≡ Err u → u ≡ NoSensor) → RowsSay p (of_kind k r) (is_unknown k)
-unfolding refusal_of unmeasured_refusal first_of
-of_field p (Ok s) r h = by_rows p s r
-of_field p (Err u) r h = rw (h u refl) refl
+of_field : (p : Position) (n r : ℕ) (k : Result Sensor Unmeasured) → Named k n → RowsSay p (of_kind k r) (is_unknown k)
+unfolding refusal_of unmeasured_refusal first_of of_resistance
+of_field p n r (Ok s) h = kind_rows p _ _ _
+of_field p n r (Err u) h = rw h.0 refl
 
-pub first_row : FirstRow
+pub refusal : (field r : ℕ) (m : Result Temperature Unmeasured) → m ≡ temperature_of field r → refusal_of Alone m ≡ first_of (alone_rows field r)
 unfolding temperature_of
-first_row field r = of_field Alone (sensor_of field) r (no_sensor field)
+refusal field r m e = ap (refusal_of Alone) e ∙ of_field Alone field r (sensor_of field) (named field)
 
--- what is answered, and its refusal by itself
-pub by_itself : (field r : ℕ) (m : Result Temperature Unmeasured) → m ≡ temperature_of field r → (m ≡ temperature_of field r) × (refusal_of Alone m ≡ first_of (alone_rows field r))
-by_itself field r m e = (e, ap (refusal_of Alone) e ∙ first_row field r)
+pub number : (field r : ℕ) (m : Result Temperature Unmeasured) → m ≡ temperature_of field r → refusal_number (refusal_of Alone m) ≡ first_number (alone_rows field r)
+number field r m e = ap refusal_number (refusal field r m e) ∙ first_number_lem (alone_rows field r)

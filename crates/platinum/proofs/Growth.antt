@@ -6,14 +6,10 @@ use native.Mathlib.Nat.{mul-le-mul_left, le_dest}
 use native.Mathlib.Omega.{arith}
 use Rattle.quantity.specs.Units.{last_hundredth}
 use Rattle.platinum.specs.Temperature.{W}
-use Rattle.platinum.specs.Theorems.{Grows, NeverCutOff}
 
--- what is taken off is never more than half of what is added
+-- what is taken off is never more than what is added, so that the difference of whole numbers in W, which would stop at 0, never does
 pub square : (t : ℕ) → t ≤ last_hundredth → 5775 * t * t ≤ 103950000 * t
 square t h = omega (arith, mul-le-mul_left t h)
-
-pub never_cut_off : NeverCutOff
-never_cut_off t h = omega (arith, square t h)
 
 between : (a x : ℕ) → a + suc x ≤ last_hundredth → W a < W (a + suc x)
 unfolding W
@@ -21,7 +17,7 @@ between a x h =
     let two : a + (a + suc x) ≤ 2 * last_hundredth = omega arith in
     omega (arith, mul-le-mul_left (suc x) two, square a (omega arith), square (a + suc x) h)
 
-pub grows : Grows
+grows : (a b : ℕ) → a < b → b ≤ last_hundredth → W a < W b
 grows a b h l =
     let d = le_dest h in
     let e : a + suc d.0 ≡ b = omega (arith, d.1) in

@@ -2,6 +2,7 @@
 pub mod Answer
 pub mod Ends
 pub mod Growth
+pub mod SensorKinds
 pub mod Line
 pub mod Near
 pub mod Resistances

@@ -6,8 +6,7 @@ use native.Mathlib.Nat.{mul-le-mul_left, le_dest}
 use native.Mathlib.Omega.{arith}
 use Rattle.quantity.specs.Units.{last_hundredth}
 use Rattle.platinum.specs.Temperature.{W}
-use Rattle.platinum.specs.Line.{slope, above_line}
-use Rattle.platinum.specs.Theorems.{CurveAboveLine}
+use Rattle.platinum.specs.Line.{slope, line_at, above_line}
 use Rattle.platinum.proofs.Growth.{square}
 
 -- in powers of t, without a difference in a product
@@ -21,7 +20,7 @@ by_powers t h =
 pub below_line : (t : ℕ) → t ≤ last_hundredth → above_line t ≤ slope * t
 below_line t h = omega (arith, by_powers t h)
 
-pub curve_above_line : CurveAboveLine
+pub curve_above_line : (t : ℕ) → t ≤ last_hundredth → W t ≡ line_at t + above_line t
 unfolding W
 curve_above_line t h = omega (arith, by_powers t h, square t h)
 

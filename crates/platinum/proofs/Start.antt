@@ -1,11 +1,11 @@
--- Where the search begins: at the temperature of the share or one hundredth above it.
+-- Where the search begins, at the line's point, and where its first two tries lead: to the temperature of the share or one hundredth above it.
 -- Assumes nothing.
 use Prim.Native.Nat.{ℕ, suc, ◌+◌, ◌-◌, ◌≤◌, ◌<◌}
 use native.Mathlib.Nat.{le_refl}
 use native.Mathlib.Omega.{arith}
 use Rattle.quantity.specs.Units.{last_hundredth}
 use Rattle.platinum.specs.Temperature.{W}
-use Rattle.platinum.specs.Line.{line_at, above_line, BetweenEnds, line_point, next_from, start_of, Within, try_reach}
+use Rattle.platinum.specs.Line.{line_at, above_line, BetweenEnds, line_point, next_from}
 use Rattle.platinum.proofs.Shares.{answer_of, answer_bounded, answer_reached, answer_largest}
 use Rattle.platinum.proofs.Line.{curve_above_line, below_line, most_change, rises, falls, falls_less, differs_little, most}
 
@@ -34,34 +34,34 @@ module _ (share t : ℕ) (m : ByLine share t) (l : ℕ) (x : Point share 0 l) wh
 
   -- f is the next from it
   module _ (f : ℕ) (y : Point share (above_line l) f) where
-    first_below : f ≤ l
-    first_below = omega (arith, y.from, x.to)
+    nearer_below : f ≤ l
+    nearer_below = omega (arith, y.from, x.to)
 
-    first_end : f ≤ last_hundredth
-    first_end = omega (arith, first_below, line_end)
+    nearer_end : f ≤ last_hundredth
+    nearer_end = omega (arith, nearer_below, line_end)
 
-    first_from : t ≤ f + 4
-    first_from = omega (arith, m.from, y.to, differs_little l t 124 line_end m.in_range line_to (omega (arith, line_from)))
+    nearer_from : t ≤ f + 4
+    nearer_from = omega (arith, m.from, y.to, differs_little l t 124 line_end m.in_range line_to (omega (arith, line_from)))
 
-    first_to : f ≤ t + 4
-    first_to = omega (arith, m.to, y.from, differs_little t l 124 m.in_range line_end (omega (arith, line_from)) line_to)
+    nearer_to : f ≤ t + 4
+    nearer_to = omega (arith, m.to, y.from, differs_little t l 124 m.in_range line_end (omega (arith, line_from)) line_to)
 
     -- Even if the curve lay above the line at t by as much as it does at f, the share would reach it. For where f is no nearer to the middle
     -- than t, that is no more than at t; otherwise, past the middle, f is t itself, since at l the curve lies above the line by no more than at t;
     -- and before it, f lies above t, and from f to l the curve nears the line by less than the line rises in a hundredth.
     reached : line_at t + above_line f ≤ share
-    reached = grind (arith, m.from, y.from, y.to, rises f t, falls t f, falls t l, falls_less f l, line_from, line_to, line_end, first_below, first_end, m.in_range)
+    reached = grind (arith, m.from, y.from, y.to, rises f t, falls t f, falls t l, falls_less f l, line_from, line_to, line_end, nearer_below, nearer_end, m.in_range)
 
     -- s is the next from that
     module _ (s : ℕ) (z : Point share (above_line f) s) where
-      start_from : t ≤ s
-      start_from = omega (arith, reached, z.to)
+      nearest_from : t ≤ s
+      nearest_from = omega (arith, reached, z.to)
 
-      start_to : s ≤ suc t
-      start_to = omega (arith, m.to, z.from, differs_little t f 4 m.in_range first_end first_from first_to)
+      nearest_to : s ≤ suc t
+      nearest_to = omega (arith, m.to, z.from, differs_little t f 4 m.in_range nearer_end nearer_from nearer_to)
 
-      start_end : s ≤ last_hundredth
-      start_end = omega (arith, z.from, x.to, line_end)
+      nearest_end : s ≤ last_hundredth
+      nearest_end = omega (arith, z.from, x.to, line_end)
 
 point : (share off : ℕ) → W 0 + off ≤ share → Point share off (line_point (share - off))
 unfolding line_point
@@ -102,32 +102,29 @@ module _ (share : ℕ) (h : BetweenEnds share) where
   abbrev f : ℕ
   f = next_from share l
 
-  first : Point share (above_line l) f
-  first = point share (above_line l) (fits share l h (le_refl _))
+  nearer : Point share (above_line l) f
+  unfolding next_from
+  nearer = point share (above_line l) (fits share l h (le_refl _))
 
-  pub first_is_below : f ≤ l
-  first_is_below = first_below share t by_line_lem l line f first
+  f_below : f ≤ l
+  f_below = nearer_below share t by_line_lem l line f nearer
 
-  start : Point share (above_line f) (start_of share)
-  unfolding start_of
-  start = point share (above_line f) (fits share f h first_is_below)
+  abbrev s : ℕ
+  s = next_from share f
 
-  pub line_bounds : (t ≤ l) × (l ≤ t + 124)
-  line_bounds = (line_from share t by_line_lem l line, line_to share t by_line_lem l line)
+  nearest : Point share (above_line f) s
+  unfolding next_from
+  nearest = point share (above_line f) (fits share f h f_below)
 
-  pub start_bounds : (t ≤ start_of share) × (start_of share ≤ suc t) × (start_of share ≤ last_hundredth)
-  start_bounds = (
-    start_from share t by_line_lem l line f first _ start,
-    start_to share t by_line_lem l line f first _ start,
-    start_end share t by_line_lem l line f first _ start,
-  )
+  pub line_bounds : (l ≤ t + 124) × (t ≤ l) × (l ≤ last_hundredth)
+  line_bounds = (line_to share t by_line_lem l line, line_from share t by_line_lem l line, line_end share t by_line_lem l line)
 
-  -- the two tries that lead to the start lie near it
-  pub line_tried : Within try_reach l (start_of share)
-  line_tried = (omega (arith, line_bounds.1, start_bounds.0), omega (arith, line_bounds.0, start_bounds.1))
+  pub nearer_bounds : (f ≤ t + 4) × (t ≤ f + 4) × (f ≤ l)
+  nearer_bounds = (nearer_to share t by_line_lem l line f nearer, nearer_from share t by_line_lem l line f nearer, f_below)
 
-  pub first_tried : Within try_reach f (start_of share)
-  first_tried = (
-    omega (arith, first_to share t by_line_lem l line f first, start_bounds.0),
-    omega (arith, first_from share t by_line_lem l line f first, start_bounds.1),
+  pub nearest_bounds : (s ≤ suc t) × (t ≤ s) × (s ≤ last_hundredth)
+  nearest_bounds = (
+    nearest_to share t by_line_lem l line f nearer _ nearest,
+    nearest_from share t by_line_lem l line f nearer _ nearest,
+    nearest_end share t by_line_lem l line f nearer _ nearest,
   )

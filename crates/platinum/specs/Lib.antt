@@ -3,4 +3,5 @@ pub mod Sensor
 pub mod Temperature
 pub mod Refusal
 pub mod Line
+pub mod Tries
 pub mod Theorems

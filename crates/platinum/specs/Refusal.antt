@@ -1,6 +1,5 @@
--- The refusals of the temperature operation, document 01's row "Temperature alone | 12; 32", and the rows "32 supply, 33 return has
--- no temperature" of the sample, as document 02, request 1, changed them: "32 and 33 keep their meaning below 0.00 °C", "70 supply and 71
--- return above 180.00 °C, in the places of 32 and 33; the temperature and coefficient operations use them too".
+-- The refusals where a reading has no temperature: 12 for an unknown sensor; below 0.00 °C 32 for a temperature alone or the supply's and 33 for the
+-- return's, and above 180.00 °C 70 and 71 in their places.
 use Rattle.std.specs.Prelude.{ℕ, List, [], ◌∷◌, Bool, true, false, Result, Ok, Err}
 use Rattle.quantity.specs.Refusals.{row}
 use Rattle.quantity.specs.Range.{end_refusal}
@@ -38,13 +37,13 @@ has_none High (Err (Outside High)) = true
 has_none Low (Err NoSensor) = true
 has_none High (Err NoSensor) = false
 
--- "has no temperature", for each end of the range: the high end's row comes right after the low end's
+-- no temperature, for each end of the range: the high end's row comes right after the low end's
 abbrev pub end_rows : Position → Result Temperature Unmeasured → List Row
 end_rows p m =
     row (end_refusal p Low) (has_none Low m)
     ∷ row (end_refusal p High) (has_none High m)
     ∷ []
 
--- "Temperature alone": 12; 32, then 70. The temperature operation's `refusal_of Alone` is the first of these (`FirstRow` of specs/Theorems.antt)
+-- the rows of a temperature alone: 12; 32, then 70. The temperature operation's `refusal_of Alone` is the first of these
 abbrev pub alone_rows : ℕ → ℕ → List Row
 alone_rows field r = row SensorKind (is_unknown (sensor_of field)) ∷ end_rows Alone (temperature_of field r)

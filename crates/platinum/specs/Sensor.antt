@@ -1,5 +1,5 @@
--- Sensor kinds, document 01, "Temperature": "Each sensor kind has its resistance at 0 °C: 100, 500 or 1000 ohm; call it n."
-use Rattle.std.specs.Prelude.{ℕ, Bool, true, false, cond, eqb, Result, Ok, Err}
+-- Sensor kinds. Each has its resistance n at 0 °C, by which a card's field names it.
+use Rattle.std.specs.Prelude.{◌≡◌, ◌⊎◌, ℕ, Bool, true, false, cond, eqb, Result, Ok, Err}
 use Rattle.platinum.specs.declared.sensor.Sensor.{Sensor}
 use Rattle.platinum.specs.declared.sensor.Sensor.TheVariants.{Pt100, Pt500, Pt1000}
 use Rattle.platinum.specs.declared.reading.Unmeasured.{Unmeasured}
@@ -11,7 +11,11 @@ resistance_of Pt100 = 100
 resistance_of Pt500 = 500
 resistance_of Pt1000 = 1000
 
--- the kind that a card's sensor field names, "sensor not 100, 500 or 1000" being unknown
+-- a resistance at 0 °C, in ohm, that a sensor kind has
+abbrev pub IsResistance : ℕ → Type 0
+IsResistance n = (n ≡ 100) ⊎ (n ≡ 500) ⊎ (n ≡ 1000)
+
+-- the kind that a card's sensor field names, if one has that resistance
 unfoldable pub sensor_of : ℕ → Result Sensor Unmeasured
 sensor_of field =
     cond (eqb field 100) (Ok Pt100)

@@ -1,5 +1,4 @@
--- The temperature of a reading, document 01, "Temperature". A reading r is in 0.0001 ohm, n is a sensor's resistance at 0 °C in ohm,
--- t counts hundredths of °C.
+-- The temperature of a reading. A reading r is in 0.0001 ohm, n is a sensor's resistance at 0 °C in ohm, t counts hundredths of °C.
 use Rattle.std.specs.Prelude.{ℕ, ◌+◌, ◌-◌, ◌*◌, ◌≤◌, cond, leb, ltb, Result, Ok, Err}
 use Rattle.quantity.specs.Largest.{largest}
 use Rattle.quantity.specs.Units.{last_hundredth}
@@ -10,7 +9,8 @@ use Rattle.platinum.specs.declared.sensor.Sensor.{Sensor}
 use Rattle.platinum.specs.declared.reading.Unmeasured.{Unmeasured}
 use Rattle.platinum.specs.declared.reading.Unmeasured.TheVariants.{Outside}
 
--- "W(t) = 100000000000000 + 3908300000×t − 5775×t×t"
+-- The resistance at t as a share of that at 0 °C, in units of 10^-14: the quadratic of IEC 60751. The difference of whole numbers, which stops at 0,
+-- never does on 0..18000 (`square` of proofs/Growth.antt).
 unfoldable pub W : ℕ → ℕ
 W t = 100000000000000 + 3908300000 * t - 5775 * t * t
 
@@ -18,8 +18,8 @@ W t = 100000000000000 + 3908300000 * t - 5775 * t * t
 abbrev pub scaled : ℕ → ℕ
 scaled r = r * 10000000000
 
--- "The temperature of r is the largest t with n×W(t) ≤ r×10000000000. It exists exactly when n×W(0) ≤ r×10000000000 ≤ n×W(18000)";
--- where it does not, the answer is the end of the range that r misses
+-- the largest t of the range at which n×W(t) is at most r×10^10, where r lies between the two ends of the range; where it does not, the end that it
+-- misses
 unfoldable pub of_resistance : ℕ → ℕ → Result Temperature Unmeasured
 of_resistance n r =
     cond (ltb (scaled r) (n * W 0)) (Err (Outside Low))
@@ -34,8 +34,8 @@ of_kind (Err e) r = Err e
 unfoldable pub temperature_of : ℕ → ℕ → Result Temperature Unmeasured
 temperature_of field r = of_kind (sensor_of field) r
 
--- The two sentences as statements about t. `Answered` and `Exactly` of specs/Theorems.antt say of `of_resistance` that it answers a temperature
--- exactly where there is one, and then the one that is the largest.
+-- The same as statements about t: `MeasuredExactly` of specs/Theorems.antt says that a temperature is answered exactly where there is one, and then
+-- the one that is the largest.
 pub record HasTemperature (n r : ℕ) : Type 0 where
   pub from : n * W 0 ≤ scaled r
   pub to : scaled r ≤ n * W last_hundredth

@@ -1,16 +1,124 @@
-// The curve W(t) of document 01, "Temperature".
-ghost use Rattle.std.specs.Prelude.{◌≡◌, ◌≤◌};
+// The platinum curve W(t), and the value on which a temperature is searched for. It keeps the share that is searched for to itself, works out the
+// curve by a try alone, notes each try, and can be neither made nor copied elsewhere: so a search finds the temperature by the tries that its notes
+// tell, and by nothing else.
+ghost use Rattle.std.specs.Prelude.{◌≡◌, ◌+◌, ◌≤◌, ◌<◌, leb};
+ghost use Rattle.quantity.specs.Largest.{largest};
 ghost use Rattle.quantity.specs.Units.{last_hundredth};
 ghost use Rattle.platinum.specs.Temperature.{W};
+ghost use Rattle.platinum.specs.Line.{BetweenEnds, line_point, next_from};
+ghost use Rattle.platinum.specs.Tries.{FromLine, IsNoted};
 
-// W(0).
+use crate::search::largest_at_most;
+use quantity::Temperature;
+
+// W(0) and W(18000).
 pub(crate) const SHARE_AT_ZERO: u64 = 100000000000000;
 
-// W(t): the resistance at t as a share of that at 0 °C, in units of 10^-14.
-#[tactic(auto, using(crate::proofs::Growth::square), unfolding(crate::specs::Temperature::W))]
-pub(crate) fn share_at(t: u64) -> u64
-    requires { t ≤ last_hundredth }
-    ensures { result ≡ W t }
+pub(crate) const SHARE_AT_END: u64 = 168478300000000;
+
+// By how much the line rises in a hundredth of a degree.
+const SLOPE: u64 = 3804350000;
+
+// The notes of a search: how many temperatures it has tried, which one first, and how far from that the farthest lies.
+#[derive(Drop)]
+pub(crate) struct Tries {
+    count: u64,
+    first: u64,
+    farthest: u64,
+}
+
+// A search for the temperature of a share that lies neither below the curve's low end nor above its high end.
+#[derive(Drop)]
+pub(crate) struct Search {
+    share: u64,
+    tries: Tries,
+    ghost between_ends: { BetweenEnds share },
+}
+
+// What a search has found, with its notes.
+#[derive(Drop)]
+pub(crate) struct Found {
+    pub(crate) temperature: Temperature,
+    tries: Tries,
+}
+
+impl Search {
+    // The largest t at which the curve is at most the share, with the notes of the search for it. No other function begins a search.
+    pub(crate) fn found(share: u64) -> Found
+        requires { BetweenEnds share }
+        ensures answer { result.temperature.0 ≡ largest (λ t. leb (W t) share) last_hundredth }
+        ensures from_line { FromLine share result.temperature.0 result.tries }
+    {
+        let mut search = Search {
+            share,
+            tries: Tries {
+                count: 0,
+                first: 0,
+                farthest: 0,
+            },
+        };
+        let t = largest_at_most(&mut search);
+        Found {
+            temperature: Temperature(t),
+            tries: search.tries,
+        }
+    }
+
+    // The line's point for the share.
+    #[tactic(auto, unfolding(crate::specs::Temperature::W))]
+    pub(crate) fn line_point(&self) -> u64
+        ensures { result ≡ line_point self.now.share }
+    {
+        line_point(self.share)
+    }
+
+    // Where the answer would be if the curve lay above the line everywhere by as much as it does at t.
+    #[tactic(auto, using(crate::proofs::Line::curve_above_line, crate::proofs::Start::line_point_in_range, crate::proofs::Start::fits), unfolding(crate::specs::Temperature::W, crate::specs::Line::next_from))]
+    pub(crate) fn next_from(&mut self, t: u64) -> u64
+        requires below_line_point { t ≤ line_point self.old.share }
+        requires countable { self.old.tries.count < u64.MAX }
+        ensures answer { result ≡ next_from self.old.share t }
+        ensures same_share { self.new.share ≡ self.old.share }
+        ensures noted { IsNoted self.old.tries t self.new.tries }
+    {
+        let above_line = self.try_at(t) - (SHARE_AT_ZERO + SLOPE * t);
+        line_point(self.share - above_line)
+    }
+
+    // Whether the curve at t is at most the share.
+    pub(crate) fn reaches(&mut self, t: u64) -> bool
+        requires in_range { t ≤ last_hundredth }
+        requires countable { self.old.tries.count < u64.MAX }
+        ensures answer { result ≡ leb (W t) self.old.share }
+        ensures same_share { self.new.share ≡ self.old.share }
+        ensures noted { IsNoted self.old.tries t self.new.tries }
+    {
+        self.try_at(t) <= self.share
+    }
+
+    // A try: W(t), the resistance at t as a share of that at 0 °C, in units of 10^-14.
+    #[tactic(auto, using(crate::proofs::Growth::square), unfolding(crate::specs::Temperature::W))]
+    fn try_at(&mut self, t: u64) -> u64
+        requires in_range { t ≤ last_hundredth }
+        requires countable { self.old.tries.count < u64.MAX }
+        ensures answer { result ≡ W t }
+        ensures same_share { self.new.share ≡ self.old.share }
+        ensures noted { IsNoted self.old.tries t self.new.tries }
+    {
+        if self.tries.count == 0 {
+            self.tries.first = t;
+        }
+        self.tries.count += 1;
+        self.tries.farthest = self.tries.farthest.max(t.abs_diff(self.tries.first));
+        SHARE_AT_ZERO + 3908300000 * t - 5775 * t * t
+    }
+}
+
+// The line's point for a share.
+#[tactic(auto, unfolding(crate::specs::Temperature::W, crate::specs::Line::line_point))]
+fn line_point(share: u64) -> u64
+    requires { W 0 ≤ share }
+    ensures { result ≡ line_point share }
 {
-    SHARE_AT_ZERO + 3908300000 * t - 5775 * t * t
+    (share - SHARE_AT_ZERO) / SLOPE
 }

@@ -2,6 +2,7 @@
 #![tactic(auto)]
 
 mod curve;
+pub mod laws;
 mod reading;
 mod search;
 mod sensor;

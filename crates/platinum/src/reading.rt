@@ -1,54 +1,66 @@
-// The temperature operation (document 01, "Temperature" and the row "Temperature alone").
-ghost use Rattle.std.specs.Prelude.{◌≡◌};
+// The temperature operation, and why a reading has none.
+ghost use Rattle.std.specs.Prelude.{◌≡◌, IfOk, MatchResult};
 ghost use Rattle.platinum.specs.Sensor.{resistance_of};
 ghost use Rattle.platinum.specs.Temperature.{of_resistance, temperature_of};
+ghost use Rattle.platinum.specs.Line.{share_of};
+ghost use Rattle.platinum.specs.Tries.{FromLine};
 ghost use Rattle.platinum.specs.Refusal.{alone_rows, end_rows, refusal_of, unmeasured_refusal};
-ghost use Rattle.quantity.specs.Refusals.{first_of};
+ghost use Rattle.platinum.specs.Theorems.{MeasuredExactly, UnmeasuredExactly};
+ghost use Rattle.quantity.specs.Range.{end_refusal};
+ghost use Rattle.quantity.specs.Refusals.{first_number, first_of, number_of, refusal_number};
 ghost use Rattle.quantity.specs.declared.range.Position.TheVariants as P;
 
-use crate::curve::share_at;
-use crate::search::Share;
+use crate::curve::{Found, SHARE_AT_END, SHARE_AT_ZERO, Search};
 use crate::sensor::Sensor;
-use quantity::{End, LAST_HUNDREDTH, Position, Refusal, Temperature};
+use quantity::{End, Position, Refusal, Temperature};
 
-// Why a reading has no temperature: there is no sensor kind to read it by, or it misses an end of the range.
+/// Why a reading has no temperature: there is no sensor kind to read it by, or it misses an end of the range.
 #[derive(Clone, Copy, Debug, PartialEq, Eq)]
 pub enum Unmeasured {
     NoSensor,
     Outside(End),
 }
 
-// The temperature of a reading in 0.0001 ohm, of a sensor that a card's field names. Any numbers are answered, a rule of the project; by itself
-// the refusal is that of the first row of "Temperature alone" that applies.
-#[tactic(auto, using(crate::proofs::Answer::by_itself), unfolding(crate::specs::Temperature::temperature_of))]
+/// The temperature of a reading in 0.0001 ohm, of a sensor that a card's field names by its resistance. Any numbers are answered: the largest
+/// temperature at which the sensor's resistance is at most the reading, or why there is none.
 pub fn temperature(field: u64, reading: u64) -> Result<Temperature, Unmeasured>
     ensures value { result ≡ temperature_of field reading }
     ensures refusal { refusal_of P.Alone result ≡ first_of (alone_rows field reading) }
+    ensures number { refusal_number (refusal_of P.Alone result) ≡ first_number (alone_rows field reading) }
+    ensures measured_exactly { MeasuredExactly field reading result }
+    ensures unmeasured_exactly { UnmeasuredExactly field reading result }
+{
+    measured(field, reading)
+}
+
+#[tactic(auto, unfolding(crate::specs::Temperature::temperature_of))]
+fn measured(field: u64, reading: u64) -> Result<Temperature, Unmeasured>
+    ensures { result ≡ temperature_of field reading }
 {
     let sensor = Sensor::try_from(field)?;
-    of_sensor(sensor, reading)
+    Ok(of_sensor(sensor, reading)?.temperature)
 }
 
 // A reading times 10^10 can pass 64 bits, so the two ends are compared as full products.
 #[tactic(auto, using(crate::proofs::Near::between_ends, crate::proofs::Near::found, crate::proofs::Resistances::resistance_range), unfolding(crate::specs::Temperature::of_resistance, crate::specs::Temperature::W))]
-fn of_sensor(sensor: Sensor, reading: u64) -> Result<Temperature, Unmeasured>
-    ensures { result ≡ of_resistance (resistance_of sensor) reading }
+fn of_sensor(sensor: Sensor, reading: u64) -> Result<Found, Unmeasured>
+    ensures answer { MatchResult result
+        (λ f. Ok f.temperature ≡ of_resistance (resistance_of sensor) reading)
+        (λ e. Err e ≡ of_resistance (resistance_of sensor) reading) }
+    ensures from_line { IfOk result (λ f. FromLine (share_of (resistance_of sensor) reading) f.temperature.0 f.tries) }
 {
     let n = sensor.resistance();
-    if quantity::product_less(reading, 10000000000, n, share_at(0)) {
+    if quantity::product_less(reading, 10000000000, n, SHARE_AT_ZERO) {
         return Err(Unmeasured::Outside(End::Low));
     }
-    if quantity::product_less(n, share_at(LAST_HUNDREDTH), reading, 10000000000) {
+    if quantity::product_less(n, SHARE_AT_END, reading, 10000000000) {
         return Err(Unmeasured::Outside(End::High));
     }
-    let share = Share {
-        value: reading * 10000000000 / n,
-    };
-    Ok(Temperature(share.largest_at_most()))
+    Ok(Search::found(reading * 10000000000 / n))
 }
 
 impl Unmeasured {
-    // The refusal, by the place of the check.
+    /// The refusal, by the place of the check.
     #[tactic(auto, unfolding(crate::specs::Refusal::unmeasured_refusal))]
     pub fn refusal(self, position: Position) -> Refusal
         ensures { result ≡ unmeasured_refusal position self }
@@ -59,10 +71,12 @@ impl Unmeasured {
         }
     }
 
-    // By the rows "has no temperature" alone, for a place where the sensor has been tested.
-    #[tactic(auto, using(crate::proofs::Ends::outside_refusal), unfolding(quantity::specs::Refusals::first_of))]
+    /// The refusal by the rows of the two ends alone, for a place where the sensor has been tested: that of the end that was missed.
+    #[tactic(auto, using(crate::proofs::Ends::outside_refusal, crate::proofs::Ends::outside_number), unfolding(quantity::specs::Refusals::first_of, quantity::specs::Refusals::first_number))]
     pub fn end_refusal(self, position: Position) -> Refusal
-        ensures { Err result ≡ first_of (end_rows position (Err self)) }
+        ensures answer { Err result ≡ first_of (end_rows position (Err self)) }
+        ensures number { number_of result ≡ first_number (end_rows position (Err self)) }
+        ensures missed_end { (e : End) → self ≡ Unmeasured.Outside e → result ≡ end_refusal position e }
     {
         match self {
             Unmeasured::NoSensor => quantity::end_refusal(position, End::Low),

@@ -1,10 +1,10 @@
-// The sensor kinds (document 01, "Temperature": "Each sensor kind has its resistance at 0 °C").
+// The sensor kinds.
 ghost use Rattle.std.specs.Prelude.{◌≡◌};
 ghost use Rattle.platinum.specs.Sensor.{sensor_of, resistance_of};
 
 use crate::reading::Unmeasured;
 
-// A sensor kind, by its nominal resistance.
+/// A sensor kind, by its nominal resistance.
 #[derive(Clone, Copy, Debug, PartialEq, Eq)]
 pub enum Sensor {
     Pt100,
@@ -12,7 +12,7 @@ pub enum Sensor {
     Pt1000,
 }
 
-// The kind that a card's field names by its resistance.
+/// The kind that a card's field names by its resistance.
 impl TryFrom<u64> for Sensor {
     type Error = Unmeasured;
 
@@ -30,14 +30,14 @@ impl TryFrom<u64> for Sensor {
 }
 
 impl Sensor {
-    // Resistances at 0 °C, in ohm. Kept as constants, not discriminants: a rule of the project ("Forms that document 01 names", docs/DECISIONS.md).
+    // Resistances at 0 °C, in ohm. Kept as constants, not discriminants: a rule of the project (docs/DECISIONS.md).
     pub const OHM_PT100: u64 = 100;
 
     pub const OHM_PT500: u64 = 500;
 
     pub const OHM_PT1000: u64 = 1000;
 
-    // The resistance at 0 °C, in ohm.
+    /// The resistance at 0 °C, in ohm.
     #[tactic(auto, unfolding(crate::specs::Sensor::resistance_of))]
     pub fn resistance(self) -> u64
         ensures { result ≡ resistance_of self }
