@@ -10,15 +10,14 @@ use Rattle.verdict.specs.Limit.{hundredths, fixed_cap, figures_of}
 use Rattle.quantity.specs.declared.fraction.Fraction.{Fraction}
 use Rattle.verdict.specs.declared.class.Figures.{Figures}
 
--- the constant is as many percent as the class's number, the factor at most 0.05, the cap 5
+-- the constant is as many percent as the class's number, the cap 5
 pub record OfClass (class : ℕ) (f : Figures) : Type 0 where
   pub constant_of : f.constant ≡ 100 * class
-  pub factor_of : f.factor ≤ 5
   pub cap_of : f.cap ≡ fixed_cap
 
 pub of_class : (class : ℕ) → 1 ≤ class → class ≤ 3 → OfClass class (figures_of class)
 unfolding figures_of
-of_class class l m = record { constant_of = grind (arith, nat_tests); factor_of = grind (arith, nat_tests); cap_of = grind (arith, nat_tests) }
+of_class class l m = record { constant_of = grind (arith, nat_tests); cap_of = grind (arith, nat_tests) }
 
 -- the cap in hundredths of a percent, and in percent
 pub capped_at_5 : (x : Fraction) (m : ℕ) → m ≡ fixed_cap → AtMost x (hundredths m) ↔ AtMost x (whole 5)

@@ -12,14 +12,14 @@ use crate::point::TestPoint;
 use crate::values::Values;
 use quantity::{Fraction, Refusal};
 
-// The answer of the comparison and of the verdict.
+/// The answer of the comparison and of the verdict.
 #[derive(Clone, Copy, Debug, PartialEq, Eq)]
 pub enum Verdict {
     Pass,
     Fail,
 }
 
-/// Whether the indicated value's error lies within a limit in percent, reduced or not, or 55, which a zero denominator is refused with, too.
+/// Whether the indicated value's error lies within a limit in percent, reduced or not, or 55, which refuses a zero denominator too.
 pub fn compare_error(
     limit: Fraction,
     indicated: u64,

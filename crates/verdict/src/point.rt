@@ -7,22 +7,24 @@ use quantity::{Difference, LARGEST_KELVINS, Unit, is_outside};
 // The largest flow rate that 54 lets pass.
 const LARGEST_FLOW: u64 = 1000000000;
 
-// What is tested, and where: the inputs of document 01, "Error verdict", without the two values compared. Any
-// content can stand here: the limit, and so the verdict, refuses what is out of range. The three kinds are numbers for
-// that reason, a rule of the project: what crosses a crate's border is total. `AdmittedPoint` has them as enums.
+/// What is tested, and where: all that the limit depends on, without the two values that are compared. Any content can stand here: the limit,
+/// and so the verdict, refuses what is out of range. The three kinds are numbers for that reason, a rule of the project: what crosses a crate's
+/// border is total. `AdmittedPoint` has them as enums.
 #[derive(Clone, Copy)]
 pub struct TestPoint {
-    // 1 calculator, 2 temperature sensor pair, 3 flow sensor, 4 complete instrument
+    /// 1 calculator, 2 temperature sensor pair, 3 flow sensor, 4 complete instrument
     pub part: u64,
-    // accuracy class, 1 to 3
+    /// accuracy class, 1 to 3
     pub class: u64,
-    // 1 verification, 2 in service
+    /// 1 verification, 2 in service
     pub stage: u64,
-    // Δmin, in whole kelvins
+    /// Δmin, in whole kelvins
     pub delta_min: u64,
+    /// difference between supply and return temperature, Δ
     pub difference: Difference,
-    // permanent flow rate and flow rate, in one unit
+    /// permanent flow rate
     pub qp: u64,
+    /// flow rate, in the same unit
     pub q: u64,
 }
 

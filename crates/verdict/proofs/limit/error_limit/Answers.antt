@@ -1,6 +1,6 @@
 -- The answer is the definition's, of which the number and the theorem speak.
 use Rattle.std.proofs.Common.{rules, ap, ◌∙◌}
-use Rattle.quantity.specs.Refusals.{refusal_number, first_of}
+use Rattle.quantity.specs.Refusals.{refusal_number}
 use Rattle.verdict.specs.Certificate.{error_limit_of}
 use Rattle.verdict.specs.Rows.{point_rows}
 use Rattle.verdict.specs.Verdict.{refused_or}
