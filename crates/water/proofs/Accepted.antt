@@ -1,13 +1,37 @@
--- Where no row applies, the heat of a volume is the floor of its exact heat: for callers that have tried the rows before.
+-- Where no row applies, heat and coefficient are the floor of the exact fraction, and only there.
 -- Assumes nothing.
-use Prim.Native.Nat.{◌*◌}
+use mathlib.Core.Path.{◌≡◌, refl, sym, ◌∙◌, subst}
+use mathlib.Core.Bool.{false}
+use mathlib.Core.List.{List}
+use mathlib.Core.Logic.{◌↔◌}
+use Prim.Native.Nat.{ℕ, ◌*◌, ◌≤◌}
+use native.Mathlib.Nat.{mul-pos, div-mul-le_self, lt-div-mul-add, div-eq_of_lt-le}
 use native.Mathlib.Omega.{arith}
 use borrow.Author.Tests.{le-ltb}
-use Rattle.quantity.proofs.Rows.{no_refusal}
-use Rattle.water.specs.Heat.{heat_rows, heat_of}
-use Rattle.water.specs.Theorems.{HeatAccepted}
+use Rattle.std.specs.Prelude.{Result, Ok, Err}
+use Rattle.std.specs.Result.{result_and}
+use Rattle.quantity.specs.Fractions.{IsFraction, floored}
+use Rattle.quantity.specs.Refusals.{outside, refusal_number, first_of, first_number, NoneApplies}
+use Rattle.quantity.specs.Units.{distance_of}
+use Rattle.quantity.specs.declared.fraction.Fraction.{Fraction}
+use Rattle.quantity.specs.declared.refusal.Refusal.{Refusal}
+use Rattle.quantity.specs.declared.refusal.Row.{Row}
+use Rattle.quantity.specs.declared.units.Temperature.{Temperature}
+use Rattle.quantity.proofs.Rows.{none_applies, no_refusal, none_of_parts, first_number_lem}
+use Rattle.water.specs.Table.{Table}
+use Rattle.water.specs.Pair.{at_place, pair_rows}
+use Rattle.water.specs.Coefficient.{order_rows, exact_coefficient, coefficient_rows, coefficient_of}
+use Rattle.water.specs.Heat.{pair_heat, heat_rows, heat_of}
+use Rattle.water.specs.Theorems.{IsFloor, CoefficientExactly, HeatExactly}
+use Rattle.water.proofs.ExactHeats.{heat_is_fraction, of_either_order}
+use Rattle.water.proofs.Passed.{apart}
+use Rattle.water.proofs.Properties.{TableBounds, volume_above_zero}
 
-pub heat_accepted : HeatAccepted
+-- for callers that have tried the rows before
+pub heat_accepted :
+    (w : Table) (u : ℕ) (ts tr : Temperature) (place : ℕ) →
+    outside place 1 2 ≡ false → ts.0 ≤ 100 * w.last → tr.0 ≤ 100 * w.last → u ≤ 1000000 →
+    heat_of w u ts tr place ≡ Ok (floored (pair_heat w u ts tr place))
 unfolding heat_of
 heat_accepted w u ts tr place p q r s =
     simp (
@@ -20,3 +44,61 @@ heat_accepted w u ts tr place p q r s =
         ),
       ),
     )
+
+-- a value comes only where the rows refuse nothing, and it is the one that follows
+answered : (o : Result Unit Refusal) (v k : ℕ) → result_and o (Ok v) ≡ Ok k → (o ≡ Ok tt) × (v ≡ k)
+answered (Err r) v k e = (cc, cc)
+answered (Ok u) v k e = (refl, cc)
+
+-- its number is the rows'
+number_by : (o : Result Unit Refusal) (v : ℕ) → refusal_number (result_and o (Ok v)) ≡ refusal_number o
+unfolding refusal_number
+number_by (Err r) v = refl
+number_by (Ok u) v = refl
+
+pub number_of_rows : (rs : List Row) (v : ℕ) → refusal_number (result_and (first_of rs) (Ok v)) ≡ first_number rs
+number_of_rows rs v = number_by (first_of rs) v ∙ first_number_lem rs
+
+-- the floor of a fraction is the largest whole number in it
+floor_of : (x : Fraction) → IsFraction x → IsFloor (floored x) x
+floor_of x p = (div-mul-le_self _ _, omega (arith, lt-div-mul-add {a = x.numerator} p))
+
+answered_exactly :
+    (rs : List Row) (x : Fraction) → (NoneApplies rs → IsFraction x) →
+    (k : ℕ) → (result_and (first_of rs) (Ok (floored x)) ≡ Ok k) ↔ (NoneApplies rs × IsFloor k x)
+answered_exactly rs x p k = (
+  λ e.
+      let a = answered (first_of rs) (floored x) k e in
+      let none = none_applies rs a.0 in
+      (none, subst (λ (y : ℕ). IsFloor y x) a.1 (floor_of x (p none))),
+  λ h.
+      let same : floored x ≡ k = div-eq_of_lt-le _ h.1.0 h.1.1 in
+      rw (no_refusal rs h.0, same) refl,
+)
+
+pub heat_exactly :
+    (w : Table) → TableBounds w → (u : ℕ) (ts tr : Temperature) (place : ℕ) (y : Result ℕ Refusal) →
+    y ≡ heat_of w u ts tr place → HeatExactly w u ts tr place y
+unfolding heat_of
+heat_exactly w b u ts tr place y same k =
+    let exactly = answered_exactly (heat_rows w u ts tr place) (pair_heat w u ts tr place) (λ none. fraction) k in
+    (λ e. exactly.0 (sym same ∙ e), λ h. same ∙ exactly.1 h)
+  where
+    fraction : IsFraction (pair_heat w u ts tr place)
+    fraction = of_either_order IsFraction w u ts tr place (λ e. heat_is_fraction w b u tr ts _) (λ e. heat_is_fraction w b u ts tr _)
+
+-- where the order of the two temperatures is not refused they differ, so that the exact coefficient is a fraction
+coefficient_is_fraction :
+    (w : Table) → TableBounds w → (ts tr measured : Temperature) → NoneApplies (order_rows ts tr) → IsFraction (exact_coefficient w ts tr measured)
+unfolding exact_coefficient distance_of
+coefficient_is_fraction w b ts tr measured none = mul-pos (volume_above_zero w b measured) (omega (arith, apart ts tr none.0 none.1.0))
+
+pub coefficient_exactly :
+    (w : Table) → TableBounds w → (ts tr : Temperature) (place : ℕ) (y : Result ℕ Refusal) →
+    y ≡ coefficient_of w ts tr place → CoefficientExactly w ts tr place y
+unfolding coefficient_of
+coefficient_exactly w b ts tr place y same k =
+    let exactly =
+    answered_exactly (coefficient_rows w ts tr place) (exact_coefficient w ts tr (at_place place ts tr))
+    (λ none. coefficient_is_fraction w b ts tr _ (none_of_parts (pair_rows w ts tr place) (order_rows ts tr) none).1) k in
+    (λ e. exactly.0 (sym same ∙ e), λ h. same ∙ exactly.1 h)

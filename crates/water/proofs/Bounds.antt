@@ -1,5 +1,5 @@
 -- The bounds of a water table that the laws of the register rest on, by tests over its entries. Stated for any table and
--- any two lists that are right, and used for the table of document 01.
+-- any two lists that are right, and used for the table at 16 bar.
 -- Assumes nothing.
 use mathlib.Core.Bool.{Bool}
 use mathlib.Core.List.{List}
@@ -10,9 +10,8 @@ use lib.ListN.{get_or}
 use Rattle.quantity.proofs.Span.{span, below}
 use Rattle.water.specs.Table.{Table, water}
 use Rattle.water.specs.declared.tables.TheConstants.{ENTHALPY, VOLUME}
-use Rattle.water.specs.Inside.Lists.{Right}
-use Rattle.water.specs.Theorems.{TableBounds, WaterBounded}
-use Rattle.water.proofs.Entries.{water_right}
+use Rattle.water.proofs.Entries.{Right, water_right}
+use Rattle.water.proofs.Properties.{TableBounds}
 
 -- the test that f is at most g at the first n numbers
 abbrev pub in_order : (ℕ → ℕ) → (ℕ → ℕ) → ℕ → Bool
@@ -45,5 +44,5 @@ bounded w hs vs r s t k m = record {
   most_volume = λ d l. omega (arith, r.volume d l, in_order_lem (at vs) (λ d. 1130000000) (suc w.last) m d (omega arith));
 }
 
-pub water_bounded : WaterBounded
+pub water_bounded : TableBounds water
 water_bounded = bounded water ENTHALPY VOLUME water_right tt tt tt tt

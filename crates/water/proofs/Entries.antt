@@ -1,5 +1,5 @@
 -- Each entry of a table's two arrays is the rounded IF97 value: one test that is computed over all degrees, and the law
--- that gives it at one of them. Stated for any table and any two lists, and used for the table of document 01.
+-- that gives it at one of them. Stated for any table and any two lists, and used for the table at 16 bar.
 -- Assumes nothing.
 use mathlib.Core.Path.{◌≡◌, refl}
 use borrow.Author.Tests.{le-leb}
@@ -17,7 +17,11 @@ use Rattle.std.specs.Prelude.{Some}
 use Rattle.water.specs.Interpolation.{interpolated}
 use Rattle.water.proofs.Interpolated.{alike}
 use Rattle.water.specs.declared.tables.TheConstants.{ENTHALPY, VOLUME}
-use Rattle.water.specs.Inside.Lists.{Right, WaterRight}
+
+-- two lists are a table's entries, at every degree
+pub record Right (w : Table) (hs vs : List ℕ) : Type 0 where
+  pub enthalpy : (d : ℕ) → d ≤ w.last → get_or hs d 0 ≡ w.specific_enthalpy d
+  pub volume : (d : ℕ) → d ≤ w.last → get_or vs d 0 ≡ w.specific_volume d
 
 -- the test: both entries of a degree are the table's
 unfoldable pub is_right : Table → List ℕ → List ℕ → ℕ → Bool
@@ -41,7 +45,7 @@ warmer : T (span (is_right water ENTHALPY VOLUME) 90 91)
 unfolding is_right enthalpy_entry volume_entry enthalpy volume
 warmer = tt
 
-pub water_right : WaterRight
+pub water_right : Right water ENTHALPY VOLUME
 water_right = right water ENTHALPY VOLUME (join (is_right water ENTHALPY VOLUME) 90 91 0 cooler warmer)
 
 -- where the entries are right, so is what lies between them

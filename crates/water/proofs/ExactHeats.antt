@@ -2,29 +2,34 @@
 -- Assumes nothing.
 use mathlib.Core.Path.{◌≡◌}
 use mathlib.Core.Bool.{true, false}
-use Prim.Native.Nat.{ℕ, ◌-◌, ◌≤◌}
+use Prim.Native.Nat.{ℕ, ◌+◌, ◌-◌, ◌*◌, ◌≤◌, ◌<◌}
 use native.Mathlib.Nat.{mul-le-mul}
 use native.Mathlib.Omega.{arith}
 use Rattle.quantity.specs.Units.{is_colder}
 use Rattle.quantity.specs.declared.units.Temperature.{Temperature}
+use Rattle.quantity.specs.Fractions.{whole, IsFraction, AtMost}
 use Rattle.quantity.specs.declared.fraction.Fraction.{Fraction}
 use Rattle.quantity.proofs.Fractions.{of_case}
 use Rattle.water.specs.Table.{Table}
 use Rattle.water.specs.Pair.{at_place}
 use Rattle.water.specs.Interpolation.{enthalpy_at}
 use Rattle.water.specs.Heat.{exact_heat, pair_heat}
-use Rattle.water.specs.Theorems.{HeatIsFraction, NoVolumeNoHeat, AtLeast2000}
-use Rattle.water.proofs.Properties.{enthalpy_grows, volume_lies, volume_above_zero}
+use Rattle.water.proofs.Properties.{TableBounds, enthalpy_grows, volume_lies, volume_above_zero}
 
-pub heat_is_fraction : HeatIsFraction
+-- it is a fraction,
+pub heat_is_fraction : (w : Table) → TableBounds w → (u : ℕ) (warm cold measured : Temperature) → IsFraction (exact_heat w u warm cold measured)
 unfolding exact_heat
 heat_is_fraction w k u warm cold measured = volume_above_zero w k measured
 
-pub no_volume_no_heat : NoVolumeNoHeat
+-- nothing where there is no volume,
+pub no_volume_no_heat : (w : Table) (warm cold measured : Temperature) → (exact_heat w 0 warm cold measured).numerator ≡ 0
 unfolding exact_heat
 no_volume_no_heat w warm cold measured = omega arith
 
-pub at_least_2000 : AtLeast2000
+-- and at least 2000 mJ where there is one, at a difference of at least 1 K
+pub at_least_2000 :
+    (w : Table) → TableBounds w → (u : ℕ) (warm cold measured : Temperature) →
+    0 < u → cold.0 + 100 ≤ warm.0 → warm.0 ≤ 100 * w.last → AtMost (whole 2000) (exact_heat w u warm cold measured)
 unfolding exact_heat
 at_least_2000 w k u warm cold measured p q r =
     let d : 410000000 ≤ enthalpy_at w warm - enthalpy_at w cold = omega (arith, enthalpy_grows w k warm cold q r) in

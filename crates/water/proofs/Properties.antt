@@ -1,12 +1,19 @@
 -- H and V of a bounded table: what the register's bounds and the 64 bits of the code rest on.
 -- Assumes nothing.
-use Prim.Native.Nat.{◌+◌, ◌-◌, ◌*◌, ◌≤◌}
+use Prim.Native.Nat.{ℕ, ◌+◌, ◌-◌, ◌*◌, ◌≤◌, ◌<◌}
 use native.Mathlib.Omega.{arith}
 use Rattle.quantity.specs.declared.units.Temperature.{Temperature}
 use Rattle.water.specs.Table.{Table}
 use Rattle.water.specs.Interpolation.{enthalpy_at, volume_at}
-use Rattle.water.specs.Theorems.{TableBounds, EnthalpyInOrder, VolumeAboveZero}
 use Rattle.water.proofs.Interpolated.{lies, apart}
+
+-- h in mJ/kg grows by at least 4,100,000 per degree and is at most 800,000,000; v in 10^-12 m³/kg is at least 900,000,000
+-- and at most 1,130,000,000
+pub record TableBounds (w : Table) : Type 0 where
+  pub grows : (d : ℕ) → d < w.last → w.specific_enthalpy d + 4100000 ≤ w.specific_enthalpy (d + 1)
+  pub most_enthalpy : (d : ℕ) → d ≤ w.last → w.specific_enthalpy d ≤ 800000000
+  pub least_volume : (d : ℕ) → d ≤ w.last → 900000000 ≤ w.specific_volume d
+  pub most_volume : (d : ℕ) → d ≤ w.last → w.specific_volume d ≤ 1130000000
 
 module _ (w : Table) (k : TableBounds w) where
   -- h grows by at least 4,100,000 mJ/kg per degree: H by as much for each hundredth of a degree
@@ -27,8 +34,9 @@ module _ (w : Table) (k : TableBounds w) where
   pub volume_lies : (t : Temperature) → (90000000000 ≤ volume_at w t) × (volume_at w t ≤ 113000000000)
   volume_lies t = lies w.specific_volume w.last 900000000 1130000000 (λ d l. (k.least_volume d l, k.most_volume d l)) t.0
 
-pub enthalpy_in_order : EnthalpyInOrder
-enthalpy_in_order w k a b p q = omega (arith, enthalpy_apart w k a b p q)
+  -- H never falls, so that the difference of whole numbers, H of the warmer less H of the colder, never stops at 0; and V is above zero
+  pub enthalpy_in_order : (a b : Temperature) → b.0 ≤ a.0 → a.0 ≤ 100 * w.last → enthalpy_at w b ≤ enthalpy_at w a
+  enthalpy_in_order a b p q = omega (arith, enthalpy_apart a b p q)
 
-pub volume_above_zero : VolumeAboveZero
-volume_above_zero w k t = omega (arith, volume_lies w k t)
+  pub volume_above_zero : (t : Temperature) → 0 < volume_at w t
+  volume_above_zero t = omega (arith, volume_lies t)

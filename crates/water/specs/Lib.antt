@@ -1,4 +1,4 @@
--- What the contracts of this crate, and of those above it, cite; the statements of its theorems; and, apart, what only its inside cites.
+-- What the contracts of this crate, and of those above it, cite; the statements of its theorems.
 pub mod Signed
 pub mod If97
 pub mod Table
@@ -8,4 +8,3 @@ pub mod Coefficient
 pub mod Heat
 pub mod Verification
 pub mod Theorems
-pub mod Inside

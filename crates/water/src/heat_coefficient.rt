@@ -1,17 +1,28 @@
-// The heat coefficient (document 01, "Water table" and the row "Coefficient").
+// The heat coefficient.
 ghost use Rattle.std.specs.Prelude.{◌≡◌, ◌<◌};
-ghost use Rattle.quantity.specs.Refusals.{first_of};
+ghost use Rattle.quantity.specs.Fractions.{floored};
+ghost use Rattle.quantity.specs.Refusals.{refusal_number, first_of, first_number};
 ghost use Rattle.water.specs.Table.{water};
 ghost use Rattle.water.specs.Pair.{at_place};
-ghost use Rattle.water.specs.Coefficient.{order_rows, coefficient_of, floored_coefficient};
+ghost use Rattle.water.specs.Coefficient.{order_rows, coefficient_rows, coefficient_of, exact_coefficient};
+ghost use Rattle.water.specs.Theorems.{CoefficientExactly};
 
 use crate::interpolation::enthalpy_rise;
 use crate::pair::Pair;
 use quantity::{Refusal, Temperature, first_refusal};
 
-// The coefficient in J/(m³ K) of a supply and a return temperature, with the volume measured at the place. Any content is answered, a rule of the
-// project: so it takes the three apart, and `Pair` holds them once they are tested.
+/// The coefficient in J/(m³ K) of a supply and a return temperature, with the volume measured at the place. Any content is answered, a rule of the
+/// project: so it takes the three apart, and `Pair` holds them once they are tested.
 pub fn coefficient(ts: Temperature, tr: Temperature, place: u64) -> Result<u64, Refusal>
+    ensures answer { result ≡ coefficient_of water ts tr place }
+    ensures number { refusal_number result ≡ first_number (coefficient_rows water ts tr place) }
+    ensures coefficient_exactly { CoefficientExactly water ts tr place result }
+{
+    coefficient_by_rows(ts, tr, place)
+}
+
+// Its answer alone, by the rows that may refuse it.
+fn coefficient_by_rows(ts: Temperature, tr: Temperature, place: u64) -> Result<u64, Refusal>
     ensures { result ≡ coefficient_of water ts tr place }
 {
     let pair = Pair::new(ts, tr, place)?;
@@ -31,11 +42,11 @@ fn order_refusal(ts: Temperature, tr: Temperature) -> Result<(), Refusal>
 }
 
 impl Pair {
-    #[tactic(auto, unfolding(crate::specs::Coefficient::floored_coefficient))]
+    #[tactic(auto, unfolding(crate::specs::Coefficient::exact_coefficient))]
     fn floored_coefficient(self) -> u64
         requires { self.returned.temperature.0 < self.supply.temperature.0 }
-        ensures { result ≡ floored_coefficient water self.supply.temperature self.returned.temperature
-            (at_place self.place self.supply.temperature self.returned.temperature) }
+        ensures { result ≡ floored (exact_coefficient water self.supply.temperature self.returned.temperature
+            (at_place self.place self.supply.temperature self.returned.temperature)) }
     {
         let rise = enthalpy_rise(self.supply, self.returned);
         let difference = self.supply.temperature.distance(self.returned.temperature);

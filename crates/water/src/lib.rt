@@ -4,6 +4,7 @@
 
 mod heat_coefficient;
 mod interpolation;
+pub mod laws;
 mod pair;
 mod tables;
 mod volume_heat;

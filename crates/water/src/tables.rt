@@ -2,7 +2,7 @@
 ghost use Rattle.std.specs.Prelude.{◌≡◌};
 ghost use Rattle.water.specs.Table.{water, entry_of};
 
-// The water table at a whole degree: the specific enthalpy in mJ/kg and the specific volume in 10^-12 m³/kg.
+/// The water table at a whole degree: the specific enthalpy in mJ/kg and the specific volume in 10^-12 m³/kg.
 #[derive(Clone, Copy, Debug, PartialEq, Eq)]
 pub struct Entry {
     pub enthalpy: u64,
@@ -67,7 +67,7 @@ pub(crate) const VOLUME: [u32; ENTRIES] = [
     1121467629, 1122806552, 1124155064, 1125513261, 1126881244,
 ];
 
-// The entry of a whole degree.
+/// The entry of a whole degree, or none past the last.
 #[tactic(auto, using(crate::proofs::Entries::entry_at), unfolding(crate::specs::Table::entry_of))]
 pub fn table_entry(degree: u64) -> Option<Entry>
     ensures { result ≡ entry_of water degree }

@@ -1,16 +1,27 @@
-// The heat of a volume (document 01, "Meter's step"), and the cold of one (document 02, request 5).
+// The heat of a volume, and the cold of one.
 ghost use Rattle.std.specs.Prelude.{◌≡◌, ◌≤◌};
 ghost use Rattle.water.specs.Table.{water};
 ghost use Rattle.quantity.specs.Fractions.{floored};
-ghost use Rattle.water.specs.Heat.{pair_heat, heat_of};
+ghost use Rattle.quantity.specs.Refusals.{refusal_number, first_number};
+ghost use Rattle.water.specs.Heat.{pair_heat, heat_rows, heat_of};
+ghost use Rattle.water.specs.Theorems.{HeatExactly};
 
 use crate::interpolation::enthalpy_rise;
 use crate::pair::Pair;
 use quantity::{Refusal, Temperature, first_refusal};
 
-// The floored heat in mJ of u mL between a supply and a return temperature, or its cold where the supply is the colder, with the volume
-// measured at the place. Any content is answered, a rule of the project: so it takes the three apart.
+/// The floored heat in mJ of u mL between a supply and a return temperature, or its cold where the supply is the colder, with the volume
+/// measured at the place. Any content is answered, a rule of the project: so it takes the three apart.
 pub fn heat(u: u64, ts: Temperature, tr: Temperature, place: u64) -> Result<u64, Refusal>
+    ensures answer { result ≡ heat_of water u ts tr place }
+    ensures number { refusal_number result ≡ first_number (heat_rows water u ts tr place) }
+    ensures heat_exactly { HeatExactly water u ts tr place result }
+{
+    heat_by_rows(u, ts, tr, place)
+}
+
+// Its answer alone, by the rows that may refuse it.
+fn heat_by_rows(u: u64, ts: Temperature, tr: Temperature, place: u64) -> Result<u64, Refusal>
     ensures { result ≡ heat_of water u ts tr place }
 {
     let pair = Pair::new(ts, tr, place)?;

@@ -1,30 +1,17 @@
--- The rows of the pair, then those of the order.
-use Rattle.std.proofs.Common.{sym, ◌∙◌}
-use Rattle.quantity.proofs.Rows.{none_applies}
-use Rattle.water.specs.Coefficient.{order_rows, coefficient_of}
-use Rattle.water.proofs.Passed.{apart, first_refuses, second_refuses, neither_refuses}
+-- The answer is the definition's, of which the number and the theorem speak.
+use Rattle.std.proofs.Common.{ap, ◌∙◌}
+use Rattle.quantity.specs.Refusals.{refusal_number}
+use Rattle.water.specs.Table.{water}
+use Rattle.water.specs.Coefficient.{coefficient_rows, coefficient_of}
+use Rattle.water.proofs.Accepted.{number_of_rows, coefficient_exactly}
+use Rattle.water.proofs.Bounds.{water_bounded}
 use Rattle.water.proofs.heat_coefficient.coefficient.Goals as goal
 
-pub returns-in_err-pair : goal.returns-in_err-pair
+pub returns-clause-number : goal.returns-clause-number
 unfolding coefficient_of
-returns-in_err-pair c = first_refuses _ _ _ _ _ c.from_residual.ensures.1 c.in_err-pair.ensures.rows
-
-pub returns-in_err-order_refusal : goal.returns-in_err-order_refusal
-unfolding coefficient_of
-returns-in_err-order_refusal c =
-    second_refuses _ _ _ _ _ c.from_residual-in_err-order_refusal.ensures.1 c.in_ok-pair.ensures.rows
-    (sym c.order_refusal.ensures ∙ c.in_err-order_refusal.was)
-
-pub floored_coefficient-requires : goal.floored_coefficient-requires
-floored_coefficient-requires c =
+returns-clause-number c =
     let a = c.args in
-    let p = c.in_ok-pair.ensures.pair in
-    let none = none_applies (order_rows a.ts a.tr) (sym c.order_refusal.ensures ∙ c.in_ok-order_refusal.was) in
-    rw (p.0, p.1) (apart a.ts a.tr none.0 none.1.0)
+    ap refusal_number c.coefficient_by_rows.ensures ∙ number_of_rows (coefficient_rows water a.ts a.tr a.place) _
 
-pub returns : goal.returns
-unfolding coefficient_of
-returns c =
-    let p = c.in_ok-pair.ensures.pair in
-    rw (rw (p.0, p.1, p.2) at c.floored_coefficient.ensures)
-    (neither_refuses _ _ _ c.in_ok-pair.ensures.rows (sym c.order_refusal.ensures ∙ c.in_ok-order_refusal.was))
+pub returns-clause-coefficient_exactly : goal.returns-clause-coefficient_exactly
+returns-clause-coefficient_exactly c = coefficient_exactly water water_bounded _ _ _ _ c.coefficient_by_rows.ensures

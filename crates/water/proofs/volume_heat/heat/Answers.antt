@@ -1,28 +1,17 @@
--- The rows of the pair, then the volume's.
-use Rattle.std.proofs.Common.{[], ◌∷◌, sym, ◌∙◌, ltb-false}
-use Rattle.quantity.proofs.Rows.{none_applies}
-use Rattle.water.specs.Heat.{heat_of}
-use Rattle.water.proofs.Passed.{first_refuses, second_refuses, neither_refuses}
+-- The answer is the definition's, of which the number and the theorem speak.
+use Rattle.std.proofs.Common.{ap, ◌∙◌}
+use Rattle.quantity.specs.Refusals.{refusal_number}
+use Rattle.water.specs.Table.{water}
+use Rattle.water.specs.Heat.{heat_rows, heat_of}
+use Rattle.water.proofs.Accepted.{number_of_rows, heat_exactly}
+use Rattle.water.proofs.Bounds.{water_bounded}
 use Rattle.water.proofs.volume_heat.heat.Goals as goal
 
-pub returns-in_err-pair : goal.returns-in_err-pair
+pub returns-clause-number : goal.returns-clause-number
 unfolding heat_of
-returns-in_err-pair c = first_refuses _ _ _ _ _ c.from_residual.ensures.1 c.in_err-pair.ensures.rows
+returns-clause-number c =
+    let a = c.args in
+    ap refusal_number c.heat_by_rows.ensures ∙ number_of_rows (heat_rows water a.u a.ts a.tr a.place) _
 
-pub returns-in_err-first_refusal : goal.returns-in_err-first_refusal
-unfolding heat_of
-returns-in_err-first_refusal c =
-    second_refuses _ _ _ _ _ c.from_residual-in_err-first_refusal.ensures.1 c.in_ok-pair.ensures.rows
-    (rw c.when.ensures at (sym c.first_refusal.ensures.answer ∙ c.in_err-first_refusal.was))
-
-pub floored_heat-requires : goal.floored_heat-requires
-floored_heat-requires c =
-    let none = none_applies (c.when.result ∷ []) (sym c.first_refusal.ensures.answer ∙ c.in_ok-first_refusal.was) in
-    ltb-false _ _ (rw c.when.ensures at none.0)
-
-pub returns : goal.returns
-unfolding heat_of
-returns c =
-    let p = c.in_ok-pair.ensures.pair in
-    rw (rw (p.0, p.1, p.2) at c.floored_heat.ensures)
-    (neither_refuses _ _ _ c.in_ok-pair.ensures.rows (rw c.when.ensures at (sym c.first_refusal.ensures.answer ∙ c.in_ok-first_refusal.was)))
+pub returns-clause-heat_exactly : goal.returns-clause-heat_exactly
+returns-clause-heat_exactly c = heat_exactly water water_bounded _ _ _ _ _ c.heat_by_rows.ensures

@@ -1,0 +1,7 @@
+// What is proved of the table's definition, whatever the inputs.
+ghost use Rattle.water.specs.Verification.{Verified};
+
+/// The definition of water gives the figures that others have published of it, each to its last digit: those of IAPWS-IF97, and Annex A of OIML R 75-1.
+pub fn verified()
+    ensures { Verified }
+{}
