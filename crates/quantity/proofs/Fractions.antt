@@ -2,8 +2,8 @@
 -- Assumes nothing.
 use mathlib.Core.Path.{◌≡◌, refl, ap}
 use mathlib.Core.Bool.{Bool, true, false, cond}
-use Prim.Native.Nat.{ℕ, ◌*◌, ◌≤◌, ◌<◌}
-use native.Mathlib.Nat.{le_refl, pos_of_ne-zero, mul-pos, mul-le-mul_right, le_of_mul-le-mul_right}
+use Prim.Native.Nat.{ℕ, ◌*◌, ◌≤◌}
+use native.Mathlib.Nat.{le_refl, mul-pos, mul-le-mul_right, le_of_mul-le-mul_right}
 use native.Mathlib.Omega.{arith}
 use borrow.Author.Tests.{leb-true}
 use Rattle.quantity.specs.Fractions.{whole, IsFraction, plus, times, AtMost, is_at_most, smaller, Represents}
@@ -30,16 +30,6 @@ of_either P b x y p q = of_case P b x y (λ e. p) (λ e. q)
 pub of_smaller : (P : Fraction → Type 0) (x y : Fraction) → P x → P y → P (smaller x y)
 unfolding smaller
 of_smaller P x y p q = of_either P (is_at_most x y) x y p q
-
--- a sum with a number above zero is above zero
-pub above_zero : (x y : Fraction) → 0 < x.numerator → IsFraction y → 0 < (plus x y).numerator
-unfolding plus
-above_zero x y p q = omega (arith, mul-pos p q)
-
--- and so is what equals a number above zero
-pub above_zero_too : (r x : Fraction) → Represents r x → 0 < x.numerator → 0 < r.numerator
-above_zero_too r x h p =
-    pos_of_ne-zero (λ (e : r.numerator ≡ 0). omega (arith, mul-pos p h.is_fraction, h.same, ap (λ (y : ℕ). y * x.denominator) e))
 
 -- the order
 pub transitive : (x y z : Fraction) → IsFraction y → AtMost x y → AtMost y z → AtMost x z

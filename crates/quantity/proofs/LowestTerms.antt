@@ -4,9 +4,8 @@ use mathlib.Core.Path.{◌≡◌, refl, sym, ◌∙◌, ap, subst}
 use Prim.Native.Nat.{ℕ, ◌*◌, ◌/◌, ◌∣◌, ◌<◌}
 use native.Mathlib.Nat.{mul-one, one-mul, dvd_trans, dvd_antisymm, dvd-mul_left, dvd-mul_right, mul-dvd-mul_left, mul-dvd-mul_right, dvd_of_mul-dvd-mul_left, dvd_of_mul-dvd-mul_right, mul-div_cancel', div-mul_cancel, pos_of_dvd_of_pos, eq-one_of_dvd-one, eq_of_mul-eq-mul_right, eq-zero_of_zero-dvd, div-zero}
 use native.Mathlib.Omega.{arith}
-use lib.Dec.{lit<}
 use Rattle.quantity.specs.Divisors.{largest_common_divisor, InLowestTerms, reduced}
-use Rattle.quantity.specs.Fractions.{◌over◌, whole, IsFraction, Same, Represents}
+use Rattle.quantity.specs.Fractions.{◌over◌, IsFraction, Same, Represents}
 use Rattle.quantity.specs.Theorems.{ReducedExactly}
 use Rattle.quantity.specs.declared.fraction.Fraction.{Fraction}
 use Rattle.quantity.proofs.Divisors.{is_largest}
@@ -106,8 +105,3 @@ pub same_reduced : (x y : Fraction) → IsFraction x → IsFraction y → Same x
 same_reduced x y p q e =
     let m = reduced_represents x p in
     is_reduced (reduced x) y q (record { is_fraction = m.is_fraction; same = same_as (reduced x) x y p m.same (sym e) }) (reduced_is_lowest x p)
-
--- a fraction that is a whole number is, reduced, that number over 1
-pub whole_reduced : (x : Fraction) (n : ℕ) → IsFraction x → Same x (whole n) → reduced x ≡ whole n
-whole_reduced x n p e =
-    sym (is_reduced (whole n) x p (record { is_fraction = lit< tt; same = sym e }) (λ k a b. eq-one_of_dvd-one b))

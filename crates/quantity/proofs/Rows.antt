@@ -53,6 +53,19 @@ without_value (Err r) = refl
 pub answer_number : {A : Type 0} (x : Result A Refusal) (rs : List Row) → result_and x (Ok (tt {0})) ≡ first_of rs → refusal_number x ≡ first_number rs
 answer_number x rs e = without_value x ∙ ap refusal_number e ∙ first_number_lem rs
 
+-- an answer that is a value where the rows refuse nothing: the value is the one that follows, and the number is the rows'
+pub answered : {A : Type 0} (o : Result Unit Refusal) (v k : A) → result_and o (Ok v) ≡ Ok k → (o ≡ Ok tt) × (v ≡ k)
+answered (Err r) v k e = (cc, cc)
+answered (Ok u) v k e = (refl, cc)
+
+pub number_of_rows : {A : Type 0} (rs : List Row) (a : A) → refusal_number (result_and (first_of rs) (Ok a)) ≡ first_number rs
+unfolding refusal_number
+number_of_rows rs a = by (first_of rs) a ∙ first_number_lem rs
+  where
+    by : {A : Type 0} (o : Result Unit Refusal) (a : A) → refusal_number (result_and o (Ok a)) ≡ refusal_number o
+    by (Err r) a = refl
+    by (Ok u) a = refl
+
 -- rows in two parts: the first part decides, or else the second
 pub parts : (rs ss : List Row) → first_of (rs ++ ss) ≡ result_and (first_of rs) (first_of ss)
 unfolding first_of

@@ -1,6 +1,6 @@
 -- The refusals and their table as data, document 01, "Refusals, by the place of the check": "Places and numbers are tried in the
 -- order shown; the first that applies is the answer, and none is given otherwise."
-use Rattle.std.specs.Prelude.{◌≡◌, ℕ, List, [], ◌∷◌, Bool, true, false, cond, ◌||◌, ltb, Result, Ok, Err}
+use Rattle.std.specs.Prelude.{◌≡◌, ℕ, List, [], ◌∷◌, Bool, false, cond, ◌||◌, ltb, Result, Ok, Err}
 use Rattle.quantity.specs.declared.refusal.Refusal.{Refusal}
 use Rattle.quantity.specs.declared.refusal.Refusal.TheVariants as R
 use Rattle.quantity.specs.declared.refusal.Row.{Row}

@@ -1,6 +1,6 @@
 -- What is proved of the refusals' numbers, of rows, and of divisors and lowest terms. Each statement has the name of the clause or of the law that
 -- promises it.
-use Rattle.std.specs.Prelude.{◌≡◌, List, ◌↔◌, ℕ, Result, Ok}
+use Rattle.std.specs.Prelude.{◌≡◌, List, ◌↔◌, Result, Ok}
 use Rattle.quantity.specs.Divisors.{InLowestTerms}
 use Rattle.quantity.specs.Fractions.{IsFraction, Represents}
 use Rattle.quantity.specs.Range.{end_number}

@@ -1,5 +1,6 @@
 -- The verdict, document 01, "Error verdict": "It passes exactly when |I−X|×100 ≤ limit×X, in exact arithmetic."
-use Rattle.std.specs.Prelude.{ℕ, ◌-◌, ◌*◌, min, max, Bool, true, false, Result, Ok, Err}
+use Rattle.std.specs.Prelude.{ℕ, ◌-◌, ◌*◌, min, max, Bool, true, false, Result, Ok}
+use Rattle.std.specs.Result.{result_and}
 use Rattle.quantity.specs.Fractions.{whole, times, is_at_most}
 use Rattle.quantity.specs.Refusals.{first_of}
 use Rattle.quantity.specs.declared.refusal.Refusal.{Refusal}
@@ -23,11 +24,6 @@ abbrev pub answer : Bool → Verdict
 answer true = Pass
 answer false = Fail
 
--- a refusal, and otherwise what an operation answers
-unfoldable pub refused_or : {A : Type 0} → Result Unit Refusal → A → Result A Refusal
-refused_or (Err r) a = Err r
-refused_or (Ok u) a = Ok a
-
 -- the verdict on the indicated value i at a test point, x being the conventional true value
 unfoldable pub verdict_of : TestPoint → ℕ → ℕ → Result Verdict Refusal
-verdict_of p i x = refused_or (first_of (verdict_rows p i x)) (answer (passes (limit_of (figures_of p.class) p) i x))
+verdict_of p i x = result_and (first_of (verdict_rows p i x)) (Ok (answer (passes (limit_of (figures_of p.class) p) i x)))

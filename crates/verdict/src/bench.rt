@@ -33,7 +33,7 @@ pub fn compare_error(
 }
 
 // Its answer alone, by the cases in which it comes.
-#[tactic(auto, unfolding(crate::specs::Certificate::comparison_of, crate::specs::Rows::incomparable, crate::specs::Verdict::refused_or, quantity::specs::Refusals::first_of))]
+#[tactic(auto, unfolding(crate::specs::Certificate::comparison_of, crate::specs::Rows::incomparable, quantity::specs::Refusals::first_of))]
 fn compared(limit: Fraction, indicated: u64, conventional_true: u64) -> Result<Verdict, Refusal>
     ensures { result ≡ comparison_of limit indicated conventional_true }
 {

@@ -8,16 +8,16 @@ use Prim.Native.Nat.{ℕ, ◌*◌, ◌≤◌}
 use native.Mathlib.Nat.{mul-pos, div-mul-le_self, lt-div-mul-add, div-eq_of_lt-le}
 use native.Mathlib.Omega.{arith}
 use borrow.Author.Tests.{le-ltb}
-use Rattle.std.specs.Prelude.{Result, Ok, Err}
+use Rattle.std.specs.Prelude.{Result, Ok}
 use Rattle.std.specs.Result.{result_and}
 use Rattle.quantity.specs.Fractions.{IsFraction, floored}
-use Rattle.quantity.specs.Refusals.{outside, refusal_number, first_of, first_number, NoneApplies}
+use Rattle.quantity.specs.Refusals.{outside, first_of, NoneApplies}
 use Rattle.quantity.specs.Units.{distance_of}
 use Rattle.quantity.specs.declared.fraction.Fraction.{Fraction}
 use Rattle.quantity.specs.declared.refusal.Refusal.{Refusal}
 use Rattle.quantity.specs.declared.refusal.Row.{Row}
 use Rattle.quantity.specs.declared.units.Temperature.{Temperature}
-use Rattle.quantity.proofs.Rows.{none_applies, no_refusal, none_of_parts, first_number_lem}
+use Rattle.quantity.proofs.Rows.{answered, none_applies, no_refusal, none_of_parts}
 use Rattle.water.specs.Table.{Table}
 use Rattle.water.specs.Pair.{at_place, pair_rows}
 use Rattle.water.specs.Coefficient.{order_rows, exact_coefficient, coefficient_rows, coefficient_of}
@@ -44,20 +44,6 @@ heat_accepted w u ts tr place p q r s =
         ),
       ),
     )
-
--- a value comes only where the rows refuse nothing, and it is the one that follows
-answered : (o : Result Unit Refusal) (v k : ℕ) → result_and o (Ok v) ≡ Ok k → (o ≡ Ok tt) × (v ≡ k)
-answered (Err r) v k e = (cc, cc)
-answered (Ok u) v k e = (refl, cc)
-
--- its number is the rows'
-number_by : (o : Result Unit Refusal) (v : ℕ) → refusal_number (result_and o (Ok v)) ≡ refusal_number o
-unfolding refusal_number
-number_by (Err r) v = refl
-number_by (Ok u) v = refl
-
-pub number_of_rows : (rs : List Row) (v : ℕ) → refusal_number (result_and (first_of rs) (Ok v)) ≡ first_number rs
-number_of_rows rs v = number_by (first_of rs) v ∙ first_number_lem rs
 
 -- the floor of a fraction is the largest whole number in it
 floor_of : (x : Fraction) → IsFraction x → IsFloor (floored x) x

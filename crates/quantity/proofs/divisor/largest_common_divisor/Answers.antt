@@ -1,5 +1,5 @@
 -- Nothing is left of the second number, so the first one is their divisor.
-use Rattle.std.proofs.Common.{◌≡◌, ℕ, sym, subst, ap, arith, ◌∙◌}
+use Rattle.std.proofs.Common.{ℕ, sym, subst, ap, arith, ◌∙◌}
 use Rattle.quantity.specs.Divisors.{largest_common_divisor, IsLargestCommonDivisor}
 use Rattle.quantity.proofs.Divisors.{divisor_of_zero, is_largest}
 use Rattle.quantity.proofs.divisor.largest_common_divisor.Goals as goal

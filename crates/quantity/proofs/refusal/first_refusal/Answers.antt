@@ -1,8 +1,6 @@
 -- The row that applies is the first that does; behind the last one, none did.
-use Rattle.std.proofs.Common.{◌≡◌, ◌∙◌, ap}
-use Rattle.std.specs.Prelude.{Result}
-use Rattle.quantity.specs.Refusals.{refusal_number, first_of}
-use Rattle.quantity.specs.declared.refusal.Refusal.{Refusal}
+use Rattle.std.proofs.Common.{◌∙◌, ap}
+use Rattle.quantity.specs.Refusals.{refusal_number}
 use Rattle.quantity.proofs.Rows.{row_applies, rows_end, refuses_nothing, first_number_lem}
 use Rattle.quantity.proofs.refusal.first_refusal.Goals as goal
 

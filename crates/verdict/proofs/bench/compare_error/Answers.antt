@@ -4,7 +4,7 @@ use Rattle.quantity.specs.Refusals.{refusal_number}
 use Rattle.verdict.specs.Certificate.{comparison_of}
 use Rattle.verdict.specs.Rows.{comparison_rows}
 use Rattle.verdict.proofs.Comparisons.{compared_exactly}
-use Rattle.verdict.proofs.Verdicts.{number_of_rows}
+use Rattle.quantity.proofs.Rows.{number_of_rows}
 use Rattle.verdict.proofs.bench.compare_error.Goals as goal
 
 pub returns-clause-number : goal.returns-clause-number

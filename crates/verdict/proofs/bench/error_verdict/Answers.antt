@@ -5,7 +5,8 @@ use Rattle.quantity.specs.Refusals.{refusal_number}
 use Rattle.verdict.specs.Rows.{verdict_rows}
 use Rattle.verdict.specs.Verdict.{verdict_of}
 use Rattle.verdict.proofs.Certificate.{of_limit, of_refusal}
-use Rattle.verdict.proofs.Verdicts.{number_of_rows, passes_exactly}
+use Rattle.quantity.proofs.Rows.{number_of_rows}
+use Rattle.verdict.proofs.Verdicts.{passes_exactly}
 use Rattle.verdict.proofs.bench.error_verdict.Goals as goal
 
 pub returns-in_err-limit-clause-answer : goal.returns-in_err-limit-clause-answer

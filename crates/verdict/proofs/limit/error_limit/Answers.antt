@@ -3,13 +3,12 @@ use Rattle.std.proofs.Common.{rules, ap, ◌∙◌}
 use Rattle.quantity.specs.Refusals.{refusal_number}
 use Rattle.verdict.specs.Certificate.{error_limit_of}
 use Rattle.verdict.specs.Rows.{point_rows}
-use Rattle.verdict.specs.Verdict.{refused_or}
 use Rattle.verdict.proofs.Certificate.{printed, limit_exactly}
-use Rattle.verdict.proofs.Verdicts.{number_of_rows}
+use Rattle.quantity.proofs.Rows.{number_of_rows}
 use Rattle.verdict.proofs.limit.error_limit.Goals as goal
 
 pub returns-in_err-admitted-clause-answer : goal.returns-in_err-admitted-clause-answer
-unfolding error_limit_of refused_or
+unfolding error_limit_of
 returns-in_err-admitted-clause-answer c = search rules
 
 pub returns-in_err-admitted-clause-number : goal.returns-in_err-admitted-clause-number

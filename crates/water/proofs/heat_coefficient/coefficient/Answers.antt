@@ -3,7 +3,8 @@ use Rattle.std.proofs.Common.{ap, ◌∙◌}
 use Rattle.quantity.specs.Refusals.{refusal_number}
 use Rattle.water.specs.Table.{water}
 use Rattle.water.specs.Coefficient.{coefficient_rows, coefficient_of}
-use Rattle.water.proofs.Accepted.{number_of_rows, coefficient_exactly}
+use Rattle.quantity.proofs.Rows.{number_of_rows}
+use Rattle.water.proofs.Accepted.{coefficient_exactly}
 use Rattle.water.proofs.Bounds.{water_bounded}
 use Rattle.water.proofs.heat_coefficient.coefficient.Goals as goal
 

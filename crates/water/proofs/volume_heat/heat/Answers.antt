@@ -3,7 +3,8 @@ use Rattle.std.proofs.Common.{ap, ◌∙◌}
 use Rattle.quantity.specs.Refusals.{refusal_number}
 use Rattle.water.specs.Table.{water}
 use Rattle.water.specs.Heat.{heat_rows, heat_of}
-use Rattle.water.proofs.Accepted.{number_of_rows, heat_exactly}
+use Rattle.quantity.proofs.Rows.{number_of_rows}
+use Rattle.water.proofs.Accepted.{heat_exactly}
 use Rattle.water.proofs.Bounds.{water_bounded}
 use Rattle.water.proofs.volume_heat.heat.Goals as goal
 
