@@ -28,7 +28,7 @@ use Rattle.meter.specs.Sample.{supply_of, return_of, temperature_or_missing, ts,
 use Rattle.meter.specs.Register.{register_of, own_register}
 use Rattle.meter.specs.Step.{count_rows, reading_rows, is_above_qs, range_rows, limit_rows, kept_of}
 use Rattle.meter.specs.Inside.Stages.{AcceptedCard, AcceptedState, AcceptedCounts, AcceptedLimits}
-use Rattle.meter.specs.Theorems.{AcceptedHasTemperatures, LackedZero}
+use Rattle.meter.specs.Theorems.{HasTemperatures, LackedZero}
 use Rattle.meter.specs.declared.card.Card.{Card}
 use Rattle.meter.specs.declared.register.Register.{Register}
 use Rattle.meter.specs.declared.register.Register.TheVariants.{Heat, Cold}
@@ -188,9 +188,9 @@ has_temperature p (Err (Outside Low)) h = let z : ◌≡◌ {A = ℕ} 0 1 = cc h
 has_temperature p (Err (Outside High)) h = let z : ◌≡◌ {A = ℕ} 0 1 = cc h.1.0 in absurd (omega arith)
 has_temperature p (Err NoSensor) h = let z : ◌≡◌ {A = ℕ} 0 1 = cc h.0 in absurd (omega arith)
 
-pub accepted_has_temperatures : AcceptedHasTemperatures
+pub accepted_readings : (c : Card) (s : Sample) → NoneApplies (reading_rows c s) → HasTemperatures c s
 unfolding reading_rows
-accepted_has_temperatures c s h =
+accepted_readings c s h =
     let p = none_of_parts (end_rows Supply (supply_of c s)) (end_rows Return (return_of c s)) h in
     record { supply = has_temperature Supply _ p.0; returned = has_temperature Return _ p.1 }
 

@@ -1,5 +1,5 @@
--- Where two editions answer alike: a sample that is the heat register's own, in editions 2 and 3; a run of samples that both editions take
--- alike, from zeros; and, but for the numbers of the refusals, a run in which both accept and refuse the same samples.
+-- Where two editions answer alike: a sample that is the heat register's own, in editions 2 and 3; and, but for the numbers of the refusals, a run in
+-- which both accept and refuse the same samples.
 -- Assumes nothing.
 use mathlib.Core.Path.{◌≡◌, refl, sym, ◌∙◌, ap, ap₂, subst}
 use mathlib.Core.List.{List, [], ◌∷◌, ◌++◌, append_assoc}
@@ -14,24 +14,21 @@ use Rattle.quantity.specs.declared.refusal.Refusal.{Refusal}
 use Rattle.quantity.specs.declared.refusal.Row.{Row}
 use Rattle.quantity.proofs.Rows.{parts}
 use Rattle.std.specs.Result.{result_and}
-use Rattle.meter.specs.Edition.{is_other_edition}
 use Rattle.meter.specs.Card.{card_rows}
-use Rattle.meter.specs.State.{zeros, largest_register, state_rows}
+use Rattle.meter.specs.State.{fresh_of, largest_register, state_rows}
 use Rattle.meter.specs.Sample.{ts, tr}
 use Rattle.meter.specs.Register.{register_of, own_register}
 use Rattle.meter.specs.Step.{count_rows, reading_rows, range_rows, limit_rows, sample_rows, added_by, accepting, refusing, by_sample, by_card_and_state, card_and_state_rows, step_of}
 use Rattle.meter.specs.Sum.{Mark}
 use Rattle.meter.specs.Calls.{mark_of, is_accepted}
 use Rattle.meter.specs.Run.{marks_of, last_of}
-use Rattle.meter.specs.Theorems.{WithinLimits, under_edition, changed, HeatAsInEdition2, with_edition, TakenAlike, AllTakenAlike, EditionsAgree, SameMarksAgree}
+use Rattle.meter.specs.Theorems.{WithinLimits, under_edition, changed, HeatAsInEdition2, with_edition}
 use Rattle.meter.specs.declared.card.Card.{Card}
-use Rattle.meter.specs.declared.register.Register.{Register}
-use Rattle.meter.specs.declared.register.Register.TheVariants.{Heat, Cold}
+use Rattle.meter.specs.declared.register.Register.TheVariants.{Cold}
 use Rattle.meter.specs.declared.state.Meter.{Meter}
 use Rattle.meter.specs.declared.sample.Sample.{Sample}
-use Rattle.meter.specs.declared.stepping.Stepped.{Stepped}
 use Rattle.meter.proofs.Leaves.{step_leaves}
-use Rattle.meter.proofs.Theorem.{stays_after, fresh_made, fresh_zeros}
+use Rattle.meter.proofs.Theorem.{fresh_zeros}
 use Rattle.meter.proofs.Along.{within_after, fresh_within, by_state}
 
 -- a change of a meter that leaves what the rows of card and state lead to, and may be made before or after a sample is accepted or refused
@@ -82,8 +79,12 @@ last_part : (ps qs rs ss : List Row) → first_of (ps ++ (qs ++ (rs ++ ss))) ≡
 last_part ps qs rs ss =
     ap (λ (l : List Row). first_of (ps ++ l)) (sym (append_assoc qs rs ss)) ∙ ap first_of (sym (append_assoc ps (qs ++ rs) ss)) ∙ parts (ps ++ (qs ++ rs)) ss
 
--- those of a sample lead to the same where it is taken alike and the rows of its limits are the same
-same_sample : (e f : ℕ) (c : Card) (s : Sample) (ls ks : List Row) → TakenAlike e f c s → ls ≡ ks →
+-- the rows of a sample that are tried before those of its limits, in an edition
+abbrev before_limits : ℕ → Card → Sample → List Row
+before_limits e c s = count_rows c s ++ (reading_rows c s ++ range_rows e c s)
+
+-- where these lead to the same in two editions, and the limits' rows are the same, so do all rows of the sample
+same_sample : (e f : ℕ) (c : Card) (s : Sample) (ls ks : List Row) → first_of (before_limits e c s) ≡ first_of (before_limits f c s) → ls ≡ ks →
     first_of (count_rows c s ++ (reading_rows c s ++ (range_rows f c s ++ ls))) ≡ first_of (count_rows c s ++ (reading_rows c s ++ (range_rows e c s ++ ks)))
 same_sample e f c s ls ks w l =
     last_part (count_rows c s) (reading_rows c s) (range_rows f c s) ls
@@ -97,18 +98,14 @@ same_limit : (e cold : ℕ) (m : Meter) (s : Sample) →
 unfolding limit_rows
 same_limit e cold m s h = simp h
 
--- as each has under another edition's number
-same_register : (r : Register) (f : ℕ) (m : Meter) → register_of r (with_edition f m) ≡ register_of r m
-same_register Heat f m = refl
-same_register Cold f m = refl
-
 -- a meter of edition 3 whose cold register keeps its limit is refused by its state exactly as that of edition 2 without cold
 same_state : (m : Meter) (cold : ℕ) → cold ≤ largest_register → state_rows (under_edition 3 cold m) ≡ state_rows (under_edition 2 0 m)
 unfolding state_rows outside
 same_state m cold most = simp (le-ltb largest_register cold most)
 
 -- neither edition refuses a sample by 36 whose supply is not below its return, nor by 39
-heat_alike : (c : Card) (s : Sample) → is_colder (ts c s) (tr c s) ≡ false → TakenAlike 2 3 c s
+heat_alike : (c : Card) (s : Sample) → is_colder (ts c s) (tr c s) ≡ false →
+    first_of (before_limits 2 c s) ≡ first_of (before_limits 3 c s)
 unfolding range_rows
 heat_alike c s e = rw e refl
 
@@ -125,27 +122,8 @@ heat_as_in_edition_2 m cold s most e =
     })
     (same_sample 2 3 c s _ _ (heat_alike c s e) (same_limit 3 cold n s (rw e refl)))
 
--- two runs are alike but for the edition, and so stay along samples that both take alike, where each step is so and what it rests on stays
-abbrev RunsAlike : ℕ → Meter → List Sample → Type 0
-RunsAlike f m ss = (marks_of m ss ≡ marks_of (with_edition f m) ss) × (with_edition f (last_of m ss) ≡ last_of (with_edition f m) ss)
-
-abbrev StepsAlike : ℕ → (Meter → Type 0) → Type 0
-StepsAlike f P =
-    (m : Meter) (s : Sample) → P m → TakenAlike m.edition f m.card s → (step_of (with_edition f m) s ≡ changed (with_edition f) (step_of m s)) × P (step_of m s).meter
-
-agree : (f : ℕ) (P : Meter → Type 0) → StepsAlike f P → (ss : List Sample) (m : Meter) → P m → AllTakenAlike m.edition f m.card ss → RunsAlike f m ss
-agree f P h [] m p w = (refl, refl)
-agree f P h (s ∷ ss) m p w =
-    let a = step_of m s in
-    let one = h m s p w.0 in
-    let stays = stays_after m s a (step_leaves m s) in
-    let others = subst (λ (c : Card). AllTakenAlike a.meter.edition f c ss) (sym stays.card) (subst (λ (e : ℕ). AllTakenAlike e f m.card ss) (sym stays.edition) w.1) in
-    let rest = agree f P h ss a.meter one.1 others in
-    subst (λ (b : Stepped). (mark_of s a ∷ marks_of a.meter ss ≡ mark_of s b ∷ marks_of b.meter ss) × (with_edition f (last_of a.meter ss) ≡ last_of b.meter ss))
-    (sym one.0)
-    (ap (λ (ks : List Mark). mark_of s a ∷ ks) rest.0, rest.1)
-
--- as where both meters are within their limits: of the rows of card and state only 21 can refuse them, by counts that are the same
+-- two meters that are alike but for the edition stay so where both are within their limits: of the rows of card and state only 21 can refuse them, by
+-- counts that are the same
 abbrev BothWithin : ℕ → Meter → Type 0
 BothWithin f m = WithinLimits m × WithinLimits (with_edition f m)
 
@@ -163,35 +141,6 @@ still_within f m s g same =
     let after : (x : Meter) → WithinLimits x → WithinLimits (step_of x s).meter = λ x. within_after x s (step_of x s) (step_leaves x s) in
     (after m g.0, subst WithinLimits same (after (with_edition f m) g.1))
 
-both_within : (f : ℕ) → StepsAlike f (BothWithin f)
-both_within f m s g w =
-    let same =
-    same_step (with_edition f) m s (within_alike f m s g)
-    (same_sample m.edition f m.card s _ _ w (same_limit f m.cold_register m s (same_register (own_register m.card s) f m))) in
-    (same, still_within f m s g (ap (λ (b : Stepped). b.meter) same))
-
--- and where the card is refused, which leaves a meter as it is
-by_card_lem : (m : Meter) (s : Sample) (n : Refusal) → first_of (card_rows m.card) ≡ Err n → step_of m s ≡ record { meter = m; outcome = Err n }
-unfolding step_of
-by_card_lem m s n e = ap (by_card_and_state m s) (parts (card_rows m.card) (state_rows m) ∙ ap (λ (o : Result Unit Refusal). result_and o (first_of (state_rows m))) e)
-
-card_refused : (f : ℕ) (n : Refusal) → StepsAlike f (λ (m : Meter). first_of (card_rows m.card) ≡ Err n)
-card_refused f n m s e w =
-    let left = by_card_lem m s n e in
-    (by_card_lem (with_edition f m) s n e ∙ sym (ap (changed (with_edition f)) left), subst (λ (a : Stepped). first_of (card_rows a.meter.card) ≡ Err n) (sym left) e)
-
--- so do fresh meters
-pub editions_agree : EditionsAgree
-editions_agree c e f ss known known-too w =
-    let p = by (first_of (card_rows c)) refl in
-    record { marks = p.0; last = p.1 }
-  where
-    by : (o : Result Unit Refusal) → first_of (card_rows c) ≡ o → RunsAlike f (zeros c e) ss
-    by (Ok u) card =
-        let within : (x : ℕ) → is_other_edition x ≡ false → WithinLimits (zeros c x) = λ x k. fresh_within c x (zeros c x) (fresh_made c x card k) in
-        agree f _ (both_within f) ss (zeros c e) (within e known, within f known-too) w
-    by (Err n) card = agree f _ (card_refused f n) ss (zeros c e) card w
-
 -- the marks tell which samples are accepted, and where these are the same each step leads to the same meter but for the edition
 same_last : (f : ℕ) (ss : List Sample) (m : Meter) → BothWithin f m → marks_of m ss ≡ marks_of (with_edition f m) ss →
     with_edition f (last_of m ss) ≡ last_of (with_edition f m) ss
@@ -203,7 +152,9 @@ same_last f (s ∷ ss) m g h =
     same_last f ss (step_of m s).meter (still_within f m s g one) (others ∙ ap (λ (x : Meter). marks_of x ss) one)
     ∙ ap (λ (x : Meter). last_of x ss) (sym one)
 
-pub same_marks_agree : SameMarksAgree
+-- so where the runs of two editions from the fresh meters of a card accept and refuse the same samples, they end alike but for the edition
+pub same_marks_agree : (c : Card) (e f : ℕ) (m n : Meter) → fresh_of c e ≡ Ok m → fresh_of c f ≡ Ok n → (ss : List Sample) →
+    marks_of m ss ≡ marks_of n ss → with_edition f (last_of m ss) ≡ last_of n ss
 same_marks_agree c e f m n made made-too ss h =
     let same : with_edition f m ≡ n = ap (with_edition f) (sym (fresh_zeros c e m made).meter) ∙ (fresh_zeros c f n made-too).meter in
     let within : BothWithin f m = (fresh_within c e m made, subst WithinLimits (sym same) (fresh_within c f n made-too)) in

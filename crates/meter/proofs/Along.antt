@@ -2,13 +2,13 @@
 -- Assumes nothing.
 use mathlib.Core.Path.{◌≡◌, refl, sym, ◌∙◌, ap, subst}
 use mathlib.Core.List.{List, [], ◌∷◌}
-use mathlib.Core.Bool.{Bool, true, false, cond, true≢false}
+use mathlib.Core.Bool.{Bool, true, false, cond}
 use mathlib.Core.Logic.{◌⊎◌, inl, inr}
 use Prim.Native.Nat.{ℕ, ◌+◌, ◌≤◌}
 use native.Mathlib.Omega.{arith}
 use lib.Dec.{eqb}
 use borrow.Author.Tests.{le-ltb, eq-eqb, ne_eqb}
-use Rattle.quantity.specs.Refusals.{number_of, first_of}
+use Rattle.quantity.specs.Refusals.{number_of, refusal_number, first_of}
 use Rattle.quantity.specs.Range.{end_refusal}
 use Rattle.std.specs.Prelude.{Result, Ok, Err}
 use Rattle.quantity.specs.declared.refusal.Refusal.{Refusal}
@@ -155,50 +155,41 @@ before_not_73 : (m : Meter) (r : Refusal) → first_of (card_and_state_rows m) �
 unfolding card_rows state_rows number_of
 before_not_73 m r e = of_some_row (λ (k : Refusal). eqb (number_of k) 73 ≡ false) (card_and_state_rows m) r (search rules) e
 
--- 73 is the number of the profile
-is_73 : eqb (number_of Profile) 73 ≡ true
-unfolding number_of
-is_73 = refl
-
 -- so the step never answers it
-by_number : (r : Refusal) → eqb (number_of r) 73 ≡ false → ◌≡◌ {A = Result Unit Refusal} (Err r) (Err Profile) → ⊥
-by_number r h e =
-    let same : r ≡ Profile = cc in
-    true≢false (sym is_73 ∙ ap (λ (k : Refusal). eqb (number_of k) 73) (sym same) ∙ h)
+not_73 : (m : Meter) (s : Sample) (a : Stepped) → Answers m s a → eqb (refusal_number a.outcome) 73 ≡ false
+unfolding refusal_number
+not_73 m s a (accepts h) = refl
+not_73 m s a (refuses_sample r f g) = sample_not_73 m s r g
+not_73 m s a (refuses_before r f) = before_not_73 m r f
 
-not_73 : (m : Meter) (s : Sample) (a : Stepped) → Answers m s a → a.outcome ≡ Err Profile → ⊥
-not_73 m s a (accepts h) e = absurd cc
-not_73 m s a (refuses_sample r f g) e = by_number r (sample_not_73 m s r g) e
-not_73 m s a (refuses_before r f) e = by_number r (before_not_73 m r f) e
-
-pub step_not_73 : (m : Meter) (s : Sample) → (step_of m s).outcome ≡ Err Profile → ⊥
+pub step_not_73 : (m : Meter) (s : Sample) → eqb (refusal_number (step_of m s).outcome) 73 ≡ false
 step_not_73 m s = not_73 m s (step_of m s) (step_answers m s)
 
 -- So after any calls from a fresh meter the step refuses with 21 or with a number of the sample's rows.
-by_answer : (m : Meter) (s : Sample) (a : Stepped) (r : Refusal) → Answers m s a → WithinLimits m → a.outcome ≡ Err r → (r ≡ CountsFull) ⊎ (30 ≤ number_of r)
-by_answer m s a n (accepts h) g e = absurd cc
-by_answer m s a n (refuses_sample k f h) g e =
-    let same : k ≡ n = cc in
-    inr (subst (λ (x : Refusal). 30 ≤ number_of x) same (sample_number m s k h))
-by_answer m s a n (refuses_before k f) g e =
-    let same : k ≡ n = cc in
-    inl (sym same ∙ only_21 m k g f)
+by_answer : (m : Meter) (s : Sample) (a : Stepped) → Answers m s a → WithinLimits m →
+    let n = refusal_number a.outcome in
+    (n ≡ 0) ⊎ ((n ≡ 21) ⊎ (30 ≤ n))
+unfolding refusal_number
+by_answer m s a (accepts h) g = inl refl
+by_answer m s a (refuses_sample r f h) g = inr (inr (sample_number m s r h))
+by_answer m s a (refuses_before r f) g = inr (inl (number_21 r (only_21 m r g f)))
 
 pub no_other_refusal : NoOtherRefusal
-no_other_refusal c e m h ks z calls s n f = by_answer z s (step_of z s) n (step_answers z s) (stays_within_limits c e m h ks z calls) f
+no_other_refusal c e m h ks z calls s = by_answer z s (step_of z s) (step_answers z s) (stays_within_limits c e m h ks z calls)
 
 -- the two counts together
 abbrev both_counts : Meter → ℕ
 both_counts m = m.accepted + m.refused
 
 one_more_lem : (m : Meter) (s : Sample) (a : Stepped) → Answers m s a → WithinLimits m → both_counts a.meter ≡ both_counts m + counts_of a.outcome
+unfolding refusal_number
 one_more_lem m s a (accepts h) g = omega arith
 one_more_lem m s a (refuses_sample n e f) g =
     simp (ne_eqb (number_of n) 21 (larger n (sample_number m s n f)), sample_not_73 m s n f) (omega arith)
 one_more_lem m s a (refuses_before n e) g = simp (eq-eqb (number_of n) 21 (number_21 n (only_21 m n g e))) (omega arith)
 
 none_more : (n : ℕ) → n ≡ n + counts_of (Err Profile)
-unfolding number_of
+unfolding refusal_number number_of
 none_more n = omega arith
 
 by_profile_lem : (m : Meter) (cells : List ℕ) (s : Sample) (index : ℕ) (o : Result Unit Refusal) → first_of (profile_rows cells index) ≡ o → WithinLimits m →

@@ -6,15 +6,14 @@ use mathlib.Core.Bool.{Bool, true, false}
 use Prim.Native.Nat.{ℕ, ◌+◌, ◌≤◌, ◌<◌}
 use native.Mathlib.Nat.{add-zero}
 use native.Mathlib.Omega.{arith}
-use lib.Dec.{ltb}
+use lib.Dec.{ltb, eqb}
 use lib.ListN.{length, length-replicate}
 use lib.Seq.{get_or-set_same}
-use borrow.Author.Tests.{lt-ltb, ltb-true}
+use borrow.Author.Tests.{lt-ltb, ltb-true, eqb-false}
 use Rattle.quantity.specs.Fractions.{floored}
-use Rattle.quantity.specs.Refusals.{first_of}
+use Rattle.quantity.specs.Refusals.{number_of, refusal_number, first_of}
 use Rattle.std.specs.Prelude.{Result, Ok, Err}
 use Rattle.quantity.specs.declared.refusal.Refusal.{Refusal}
-use Rattle.quantity.specs.declared.refusal.Refusal.TheVariants.{Profile}
 use Rattle.quantity.proofs.Rows.{no_refusal}
 use Rattle.meter.specs.Calls.{Calls, none, in_quarter, is_accepted, mark_of}
 use Rattle.meter.specs.Day.{InQuarter, DayCalls, no_call, call, day_of, day_asked, together}
@@ -71,10 +70,10 @@ all_heat c s (Ok u) a own = ap (λ (r : Register). added_to Heat r (floored (sam
 all_heat c s (Err n) a own = absurd cc
 
 index_within : (m : Meter) (cells : List ℕ) (s : Sample) (i : ℕ) → is_accepted (in_quarter_of m cells s i).stepped.outcome ≡ true → i < quarters
-index_within m cells s i a = (admitted cells i (no_refusal (profile_rows cells i) ((in_quarter_exactly m cells s i).0 a).0)).within
+index_within m cells s i a = (admitted cells i (no_refusal (profile_rows cells i) ((in_quarter_exactly m cells s i _ refl).0 a).0)).within
 
-pub cell_as_register : CellAsRegister
-cell_as_register m cells s i long a own =
+by_definition : (m : Meter) (cells : List ℕ) (s : Sample) (i : ℕ) → length cells ≡ quarters → CellAsRegister m cells s i (in_quarter_of m cells s i)
+by_definition m cells s i long a own =
     let p = in_quarter_of m cells s i in
     let heat = all_heat m.card s p.stepped.outcome a own in
     let within = index_within m cells s i a in (
@@ -83,6 +82,10 @@ cell_as_register m cells s i long a own =
           ∙ ap (λ (n : ℕ). cell_at cells i + n) heat,
       grown m s p.stepped (leaves m (asks_in_quarter cells s i)) ∙ ap (λ (n : ℕ). m.register + n) heat,
     )
+
+pub cell_as_register : (m : Meter) (cells : List ℕ) (s : Sample) (i : ℕ) (a : Profiled) → a ≡ in_quarter_of m cells s i → length cells ≡ quarters →
+    CellAsRegister m cells s i a
+cell_as_register m cells s i a same long = subst (CellAsRegister m cells s i) (sym same) (by_definition m cells s i long)
 
 -- ---- a list of calls
 
@@ -130,18 +133,21 @@ unfolding profile_rows
 not_refused cells i e small =
     no_refusal (profile_rows cells i) (simp (e, all_at_most largest_register cells small) (refl, tt))
 
+other_number : (n : ℕ) → eqb n 73 ≡ false → n ≡ 73 → ⊥
+other_number n h e = eqb-false n 73 h e
+
 pub index_alone : IndexAlone
-unfolding in_quarter_of profile_rows first_of
+unfolding in_quarter_of profile_rows first_of refusal_number number_of
 index_alone m z qs cells calls s i = (
   by (ltb 95 i) refl,
   λ h. simp (lt-ltb 95 i h),
 )
   where
-    by : (b : Bool) → ltb 95 i ≡ b → (in_quarter_of z cells s i).stepped.outcome ≡ Err Profile → 95 < i
+    by : (b : Bool) → ltb 95 i ≡ b → refusal_number (in_quarter_of z cells s i).stepped.outcome ≡ 73 → 95 < i
     by true e f = ltb-true 95 i e
     by false e f =
         let o = not_refused cells i e (cells_within_limit m z qs cells calls) in
-        absurd (step_not_73 z s (sym (ap (λ (x : Result Unit Refusal). (by_profile z cells s i x).stepped.outcome) o) ∙ f))
+        absurd (other_number _ (step_not_73 z s) (ap (λ (x : Result Unit Refusal). refusal_number (by_profile z cells s i x).stepped.outcome) (sym o) ∙ f))
 
 -- ---- such calls exist
 

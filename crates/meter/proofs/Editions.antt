@@ -11,27 +11,19 @@ use Rattle.meter.specs.Step.{kept_of}
 use Rattle.meter.specs.Sum.{Mark, is_own}
 use Rattle.meter.specs.Calls.{mark_of, is_accepted}
 use Rattle.meter.specs.Run.{Asking, sample_asked, answer_of, marks_asked, last_asked}
-use Rattle.meter.specs.Theorems.{AllOwn, AcceptedWithinQs, AcceptedHeat, HeatOnly, kept_in, KeptSeconds}
+use Rattle.meter.specs.Theorems.{AllOwn, HeatAlone, HeatOnly, kept_in, KeptSeconds}
 use Rattle.meter.specs.declared.card.Card.{Card}
-use Rattle.meter.specs.declared.register.Register.TheVariants.{Heat}
+use Rattle.meter.specs.declared.register.Register.TheVariants.{Heat, Cold}
 use Rattle.meter.specs.declared.state.Meter.{Meter}
 use Rattle.meter.specs.declared.sample.Sample.{Sample}
 use Rattle.meter.specs.declared.stepping.Stepped.{Stepped}
-use Rattle.meter.proofs.Accepted.{accepted_flow, accepted_order}
-use Rattle.meter.proofs.Answers.{accepted_exactly}
+use Rattle.meter.proofs.Accepted.{accepted_order}
 use Rattle.meter.proofs.Existence.{by_askings}
 use Rattle.meter.proofs.Leaves.{Leaves, adds, counts, keeps, leaves}
+use Rattle.meter.proofs.Own.{other_nothing}
 use Rattle.meter.proofs.Theorem.{stays_after, fresh_zeros}
 
--- an edition that keeps no seconds accepts no sample above q_s
-pub accepted_within_qs : AcceptedWithinQs
-accepted_within_qs m s a k = accepted_flow m.edition m.card s ((accepted_exactly m s).0 a).range k
-
--- and one that counts no cold accepts only the heat register's own
-pub accepted_heat : AcceptedHeat
-accepted_heat m s a k = accepted_order m.edition m.card s ((accepted_exactly m s).0 a).range k
-
--- so is what a call marks as accepted
+-- in an edition that counts no cold, what a call marks as accepted is the heat register's own
 heat_after : (m : Meter) (s : Sample) (a : Stepped) → Leaves m s a → counts_cold m.edition ≡ false → is_accepted a.outcome ≡ true →
     is_own Heat m.card (mark_of s a) ≡ true
 heat_after m s a (adds h) k e = ap (is_same Heat) (accepted_order m.edition m.card s h.range k)
@@ -48,12 +40,18 @@ heat_along m (q ∷ qs) k =
     let others = heat_along a.meter qs (ap counts_cold stays.edition ∙ k) in
     (heat_after m s a (leaves m q) k, subst (λ (c : Card). AllOwn Heat c (marks_asked a.meter qs)) stays.card others)
 
+-- and the cold register has no part in such a list
+heat_alone : {c : Card} {ks : List Mark} → AllOwn Heat c ks → HeatAlone c ks
+heat_alone {c} {ks} own =
+    let none = other_nothing Heat Cold c ks refl own in
+    record { own = own; cold_sum = none.0; cold_allowance = none.1 }
+
 pub heat_only : HeatOnly
 heat_only c e m h k =
     let f = (fresh_zeros c e m h).meter in
     let none_cold : counts_cold m.edition ≡ false = ap counts_cold (sym (ap (λ (x : Meter). x.edition) f)) ∙ k in
-    by_askings m (λ (ks : List Mark) (z : Meter). AllOwn Heat c ks)
-    (λ qs. subst (λ (x : Card). AllOwn Heat x (marks_asked m qs)) (sym (ap (λ (x : Meter). x.card) f)) (heat_along m qs none_cold))
+    by_askings m (λ (ks : List Mark) (z : Meter). HeatAlone c ks)
+    (λ qs. heat_alone (subst (λ (x : Card). AllOwn Heat x (marks_asked m qs)) (sym (ap (λ (x : Meter). x.card) f)) (heat_along m qs none_cold)))
 
 -- a call keeps the seconds of an accepted sample above q_s
 kept_after : (m : Meter) (s : Sample) (a : Stepped) → Leaves m s a →

@@ -7,8 +7,8 @@ use mathlib.Core.Bool.{Bool, true, false, ◌&&◌}
 use Prim.Native.Nat.{ℕ}
 use Rattle.quantity.specs.declared.fraction.Fraction.{Fraction}
 use Rattle.meter.specs.Register.{own_register, is_same}
-use Rattle.meter.specs.Sum.{Mark, is_own, nothing, sum_from, allowance_from}
-use Rattle.meter.specs.Theorems.{OwnExactly, AllOwn, OtherNothing}
+use Rattle.meter.specs.Sum.{Mark, is_own, nothing, sum_from, sum_of, allowance_from, allowance_of}
+use Rattle.meter.specs.Theorems.{OwnExactly, AllOwn}
 use Rattle.meter.specs.declared.card.Card.{Card}
 use Rattle.meter.specs.declared.register.Register.{Register}
 use Rattle.meter.specs.declared.register.Register.TheVariants.{Heat, Cold}
@@ -42,5 +42,6 @@ nothing_from : (r other : Register) (c : Card) (a : Fraction) (n : ℕ) (ks : Li
 nothing_from r other c a n [] apart h = (refl, refl)
 nothing_from r other c a n (k ∷ ks) apart h = rw (not_own r other c k apart h.0) (nothing_from r other c a n ks apart h.1)
 
-pub other_nothing : OtherNothing
+pub other_nothing : (r other : Register) (c : Card) (ks : List Mark) → is_same other r ≡ false → AllOwn r c ks →
+    (sum_of other c ks ≡ nothing) × (allowance_of other c ks ≡ 0)
 other_nothing r other c ks apart h = nothing_from r other c nothing 0 ks apart h

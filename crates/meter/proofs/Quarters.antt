@@ -1,7 +1,7 @@
 -- What a call with a quarter's index does, whatever meter and cells it is given.
 -- Assumes nothing.
 use mathlib.Core.Path.{◌≡◌, refl, sym, ap, ◌∙◌, subst}
-use mathlib.Core.List.{List}
+use mathlib.Core.List.{List, ◌++◌}
 use mathlib.Core.Bool.{Bool, true, false, cond}
 use Prim.Native.Nat.{ℕ, ◌+◌, ◌*◌, ◌-◌, ◌≤◌}
 use native.Mathlib.Nat.{add-zero}
@@ -11,13 +11,14 @@ use lib.ListN.{length, length-set}
 use lib.Seq.{get_or-set_other}
 use borrow.Author.Tests.{ltb-false}
 use Rattle.quantity.specs.Fractions.{floored}
-use Rattle.quantity.specs.Refusals.{first_of, NoneApplies}
+use Rattle.quantity.specs.Refusals.{refusal_number, first_of, first_number, NoneApplies}
 use Rattle.std.specs.Prelude.{Result, Ok, Err}
 use Rattle.std.specs.List.{list_any}
+use Rattle.std.specs.Result.{result_and}
 use Rattle.quantity.specs.declared.refusal.Refusal.{Refusal}
 use Rattle.quantity.specs.declared.refusal.Refusal.TheVariants.{Profile}
 use Rattle.quantity.proofs.Conditions.{neither}
-use Rattle.quantity.proofs.Rows.{none_applies, no_refusal, of_some_row}
+use Rattle.quantity.proofs.Rows.{first_number_lem, parts, none_applies, no_refusal, of_some_row}
 use Rattle.meter.specs.Answers.{NoRowRefuses}
 use Rattle.meter.specs.Calls.{is_accepted}
 use Rattle.meter.specs.Profile.{quarters, profile_rows, cell_at, raised_at, cells_after, by_profile, in_quarter_of}
@@ -25,15 +26,16 @@ use Rattle.meter.specs.Inside.Quarters.{Admitted}
 use Rattle.meter.specs.Register.{own_register, is_same}
 use Rattle.meter.specs.Sample.{sample_heat}
 use Rattle.meter.specs.State.{largest_register}
-use Rattle.meter.specs.Step.{added_by, step_of}
+use Rattle.meter.specs.Step.{added_by, card_and_state_rows, sample_rows, step_of}
 use Rattle.meter.specs.Theorems.{InQuarterExactly, OtherCellsStay}
 use Rattle.meter.specs.declared.card.Card.{Card}
+use Rattle.meter.specs.declared.profile.Profiled.{Profiled}
 use Rattle.meter.specs.declared.register.Register.TheVariants.{Heat}
 use Rattle.meter.specs.declared.sample.Sample.{Sample}
 use Rattle.meter.specs.declared.state.Meter.{Meter}
 use Rattle.meter.specs.declared.stepping.Stepped.{Stepped}
 use Rattle.meter.proofs.Accepted.{accepted_limits}
-use Rattle.meter.proofs.Answers.{accepted_exactly}
+use Rattle.meter.proofs.Answers.{step_outcome, accepted_exactly}
 use Rattle.meter.proofs.Cells.{raised_by_none, none_above}
 use Rattle.meter.proofs.Leaves.{Leaves, adds, counts, keeps, step_leaves}
 
@@ -107,6 +109,19 @@ answer_is m cells s i a f =
 
 -- ---- any cells and any answer
 
+-- the number is that of the first row that applies: row 73 comes before those of the step
+pub in_quarter_number : (m : Meter) (cells : List ℕ) (s : Sample) (i : ℕ) (a : Profiled) → a ≡ in_quarter_of m cells s i →
+    refusal_number a.stepped.outcome ≡ first_number (profile_rows cells i ++ (card_and_state_rows m ++ sample_rows m s))
+unfolding in_quarter_of
+in_quarter_number m cells s i a same =
+    ap (λ (x : Profiled). refusal_number x.stepped.outcome) same
+    ∙ ap refusal_number (by (first_of (profile_rows cells i)) ∙ sym (parts (profile_rows cells i) _))
+    ∙ first_number_lem (profile_rows cells i ++ (card_and_state_rows m ++ sample_rows m s))
+  where
+    by : (o : Result Unit Refusal) → (by_profile m cells s i o).stepped.outcome ≡ result_and o (first_of (card_and_state_rows m ++ sample_rows m s))
+    by (Ok u) = step_outcome m s
+    by (Err r) = refl
+
 -- a call raises the cell of its index by what it adds to the heat register, which is nothing where it is refused
 by_rows : (m : Meter) (cells : List ℕ) (s : Sample) (i : ℕ) (o : Result Unit Refusal) →
     (by_profile m cells s i o).cells ≡ raised_at cells i (heat_by m.card s (by_profile m cells s i o).stepped.outcome)
@@ -119,23 +134,25 @@ unfolding in_quarter_of
 in_quarter_cells m cells s i = by_rows m cells s i (first_of (profile_rows cells i))
 
 -- it accepts exactly what neither row 73 nor the step refuses
-pub in_quarter_exactly : InQuarterExactly
+pub in_quarter_exactly : (m : Meter) (cells : List ℕ) (s : Sample) (i : ℕ) (a : Profiled) → a ≡ in_quarter_of m cells s i → InQuarterExactly m cells s i a
 unfolding in_quarter_of
-in_quarter_exactly m cells s i = (
-  forth (first_of (profile_rows cells i)) refl,
-  λ h. ap (λ (o : Result Unit Refusal). is_accepted (by_profile m cells s i o).stepped.outcome) (no_refusal (profile_rows cells i) h.0)
-      ∙ (accepted_exactly m s).1 h.1,
-)
+in_quarter_exactly m cells s i a same =
+    subst (InQuarterExactly m cells s i) (sym same) (
+      forth (first_of (profile_rows cells i)) refl,
+      λ h. ap (λ (o : Result Unit Refusal). is_accepted (by_profile m cells s i o).stepped.outcome) (no_refusal (profile_rows cells i) h.0)
+          ∙ (accepted_exactly m s _ refl).1 h.1,
+    )
   where
     forth : (o : Result Unit Refusal) → first_of (profile_rows cells i) ≡ o → is_accepted (by_profile m cells s i o).stepped.outcome ≡ true →
         NoneApplies (profile_rows cells i) × NoRowRefuses m s
-    forth (Ok u) e a = (none_applies (profile_rows cells i) e, (accepted_exactly m s).0 a)
+    forth (Ok u) e a = (none_applies (profile_rows cells i) e, (accepted_exactly m s _ refl).0 a)
     forth (Err r) e a = absurd cc
 
 -- so a cell other than the index's is as it was
-pub other_cells_stay : OtherCellsStay
-other_cells_stay m cells s i k apart =
-    ap (λ (l : List ℕ). cell_at l k) (in_quarter_cells m cells s i)
+pub other_cells_stay : (m : Meter) (cells : List ℕ) (s : Sample) (i : ℕ) (a : Profiled) → a ≡ in_quarter_of m cells s i → OtherCellsStay cells i a
+other_cells_stay m cells s i a same k apart =
+    ap (λ (x : Profiled). cell_at x.cells k) same
+    ∙ ap (λ (l : List ℕ). cell_at l k) (in_quarter_cells m cells s i)
     ∙ get_or-set_other cells i k (cell_at cells i + heat_by m.card s (in_quarter_of m cells s i).stepped.outcome) 0 apart
 
 -- they stay as many

@@ -1,23 +1,23 @@
--- Demand 3, proved: `register` is the statement `RegisterBounds` of specs/Theorems.antt.
+-- The fresh meter, and the register theorem: each register lies within its bounds of the exact sum of its own samples.
 -- Assumes nothing.
 use mathlib.Core.Path.{◌≡◌, refl, sym, ◌∙◌, ap, subst}
 use mathlib.Core.List.{List, [], ◌∷◌}
 use mathlib.Core.Bool.{Bool, true, false, cond, ◌&&◌}
-use Prim.Native.Nat.{ℕ, ◌+◌, ◌*◌, ◌≤◌, ◌<◌}
-use native.Mathlib.Nat.{add-zero, le-div_iff_mul-le}
+use Prim.Native.Nat.{ℕ, ◌+◌, ◌≤◌}
+use native.Mathlib.Nat.{add-zero}
 use native.Mathlib.Omega.{arith}
 use lib.Dec.{ltb}
 use borrow.Author.Tests.{ltb-true, ltb-false}
-use Rattle.quantity.specs.Refusals.{row, first_of}
+use Rattle.quantity.specs.Refusals.{refusal_number, row, first_of, first_number}
 use Rattle.std.specs.Prelude.{Result, Ok, Err}
 use Rattle.quantity.specs.declared.refusal.Refusal.{Refusal}
 use Rattle.quantity.specs.declared.refusal.Refusal.TheVariants as R
-use Rattle.quantity.proofs.Rows.{none_applies, no_refusal, none_of_parts, none_together}
+use Rattle.quantity.proofs.Rows.{first_number_lem, none_applies, no_refusal, none_of_parts, none_together}
 use Rattle.water.specs.Table.{water}
 use Rattle.water.specs.Heat.{exact_heat}
 use Rattle.quantity.specs.Units.{last_hundredth}
 use Rattle.quantity.specs.declared.units.Temperature.{Temperature}
-use Rattle.quantity.specs.Fractions.{IsFraction, plus, floored}
+use Rattle.quantity.specs.Fractions.{plus, floored}
 use Rattle.quantity.specs.declared.fraction.Fraction.{Fraction}
 use Rattle.water.proofs.Bounds.{water_bounded}
 use Rattle.water.proofs.ExactHeats.{heat_is_fraction, no_volume_no_heat, at_least_2000, of_either_order}
@@ -26,12 +26,12 @@ use Rattle.meter.specs.Card.{card_rows}
 use Rattle.meter.specs.State.{fresh_rows, fresh_of, fresh_answer, zeros}
 use Rattle.meter.specs.Sample.{volume_of, has_volume, ts, tr, sample_heat}
 use Rattle.meter.specs.Register.{register_of, own_register, is_same}
-use Rattle.meter.specs.Step.{added_by, accepting, step_of}
+use Rattle.meter.specs.Step.{added_by, accepting}
 use Rattle.meter.specs.Sum.{Mark, is_own, nothing, sum_from, allowance_from, sum_of, allowance_of, WithinBounds}
-use Rattle.meter.specs.Calls.{mark_of}
+use Rattle.meter.specs.Calls.{Calls, mark_of}
 use Rattle.meter.specs.Run.{Asking, sample_asked, answer_of, marks_asked, last_asked}
 use Rattle.meter.specs.Answers.{NoRowRefuses}
-use Rattle.meter.specs.Theorems.{RegisterBounds, FreshMade, FreshZeros, CardAlong, EditionAlong, SampleHeatIsFraction, Raises, OtherStays}
+use Rattle.meter.specs.Theorems.{IsFresh, FreshExactly, RegisterBounds}
 use Rattle.meter.specs.declared.card.Card.{Card}
 use Rattle.meter.specs.declared.state.Meter.{Meter}
 use Rattle.meter.specs.declared.register.Register.{Register}
@@ -39,17 +39,10 @@ use Rattle.meter.specs.declared.register.Register.TheVariants.{Heat, Cold}
 use Rattle.meter.specs.declared.sample.Sample.{Sample}
 use Rattle.meter.specs.declared.stepping.Stepped.{Stepped}
 use Rattle.meter.proofs.Keeping.{HeatBounds, start, keep}
-use Rattle.meter.proofs.Answers.{not_refused, accepted_exactly}
 use Rattle.meter.proofs.Existence.{by_askings}
-use Rattle.meter.proofs.Leaves.{Leaves, adds, counts, keeps, step_leaves, leaves}
-use Rattle.meter.proofs.Registers.{same, unchanged, empty}
+use Rattle.meter.proofs.Leaves.{Leaves, adds, counts, keeps, leaves}
+use Rattle.meter.proofs.Registers.{unchanged, empty}
 use Rattle.meter.proofs.Accepted.{accepted_card, accepted_pair, temperature_at_most}
-
--- the exact heat's lower number is above zero, also where a sample has no temperature
-pub sample_heat_is_fraction : SampleHeatIsFraction
-unfolding sample_heat
-sample_heat_is_fraction c s =
-    of_either_order IsFraction water _ _ _ _ (λ e. heat_is_fraction water water_bounded _ _ _ _) (λ e. heat_is_fraction water water_bounded _ _ _ _)
 
 -- the exact heat between temperatures that lie at least 1 K apart
 between : (u : ℕ) (warm cold measured : Temperature) → cold.0 + 100 ≤ warm.0 → warm.0 ≤ last_hundredth →
@@ -126,10 +119,7 @@ stays_along m (q ∷ qs) =
     let others = stays_along (answer_of m q).meter qs in
     record { card = others.card ∙ one.card; edition = others.edition ∙ one.edition }
 
-pub card_along : CardAlong
-card_along m = by_askings m (λ (ks : List Mark) (z : Meter). z.card ≡ m.card) (λ qs. (stays_along m qs).card)
-
-pub edition_along : EditionAlong
+pub edition_along : (m : Meter) (ks : List Mark) (z : Meter) → Calls m ks z → z.edition ≡ m.edition
 edition_along m = by_askings m (λ (ks : List Mark) (z : Meter). z.edition ≡ m.edition) (λ qs. (stays_along m qs).edition)
 
 -- only the outcome of no refusal makes a meter
@@ -138,7 +128,7 @@ by_rows x m (Ok u) e = (refl, cc)
 by_rows x m (Err n) e = absurd cc
 
 -- a fresh meter is that of an accepted card and an edition, with zeros
-pub fresh_zeros : FreshZeros
+pub fresh_zeros : (c : Card) (e : ℕ) (m : Meter) → fresh_of c e ≡ Ok m → IsFresh c e m
 unfolding fresh_of
 fresh_zeros c e m h =
     let p = by_rows (zeros c e) m (first_of (fresh_rows c e)) h in
@@ -146,39 +136,31 @@ fresh_zeros c e m h =
     record { card = no_refusal (card_rows c) none_refuses.0; edition = none_refuses.1.0; meter = p.1 }
 
 -- and every accepted card has one in each edition
-pub fresh_made : FreshMade
+pub fresh_made : (c : Card) (e : ℕ) → first_of (card_rows c) ≡ Ok tt → is_other_edition e ≡ false → fresh_of c e ≡ Ok (zeros c e)
 unfolding fresh_of
 fresh_made c e h known =
     let none_refuses = none_together (card_rows c) (row R.State (is_other_edition e) ∷ []) (none_applies (card_rows c) h) (known, tt) in
     ap (λ (o : Result Unit Refusal). fresh_answer o (zeros c e)) (no_refusal (fresh_rows c e) none_refuses)
 
-pub register : RegisterBounds
-register c e m h ks z calls r =
+pub fresh_exactly : (c : Card) (e : ℕ) (x : Result Meter Refusal) → x ≡ fresh_of c e → FreshExactly c e x
+fresh_exactly c e x same m = (
+  λ h. fresh_zeros c e m (sym same ∙ h),
+  λ f. same ∙ fresh_made c e f.card f.edition ∙ ap Ok f.meter,
+)
+
+-- its number is that of the first row that applies
+pub fresh_number : (c : Card) (e : ℕ) (x : Result Meter Refusal) → x ≡ fresh_of c e → refusal_number x ≡ first_number (fresh_rows c e)
+unfolding fresh_of refusal_number
+fresh_number c e x same = ap refusal_number same ∙ by (first_of (fresh_rows c e)) ∙ first_number_lem (fresh_rows c e)
+  where
+    by : (o : Result Unit Refusal) → refusal_number (fresh_answer o (zeros c e)) ≡ refusal_number o
+    by (Ok u) = refl
+    by (Err r) = refl
+
+pub register_bounds : RegisterBounds
+register_bounds c e m h ks z calls r =
     let m_is = (fresh_zeros c e m h).meter in
     let begun = subst (λ (x : Meter). WithinBounds (register_of r x) 0 nothing) m_is (subst (λ (x : ℕ). WithinBounds x 0 nothing) (sym (empty r c e)) start) in
     by_askings m (λ (ks : List Mark) (z : Meter). WithinBounds (register_of r z) (allowance_of r c ks) (sum_of r c ks))
     (λ qs. from r c m 0 nothing qs (sym (ap (λ (x : Meter). x.card) m_is)) begun)
     ks z calls
-
--- an accepted sample with a volume raises its own register
-pub raises : Raises
-raises m s e v =
-    let none_refuses = (accepted_exactly m s).0 e in
-    let w = heat_bounds m s none_refuses in
-    let h = sample_heat m.card s in
-    let own = own_register m.card s in
-    let least : 2000 * h.denominator ≤ h.numerator = omega (arith, w.least v) in
-    let at_least_lem = (le-div_iff_mul-le w.is_fraction).1 least in
-    let all = ap (λ (b : Bool). cond b (floored h) 0) (same own) in
-    subst (λ (a : Stepped). register_of own m < register_of own a.meter) (sym (not_refused m s none_refuses))
-    (subst (λ (x : ℕ). register_of own m < x) (sym (raised own m s)) (omega (arith, at_least_lem, all)))
-
--- and no sample changes the other
-other_after : (m : Meter) (s : Sample) (a : Stepped) (other : Register) → Leaves m s a → is_same other (own_register m.card s) ≡ false →
-    register_of other a.meter ≡ register_of other m
-other_after m s a other (adds h) e = raised other m s ∙ ap (λ (b : Bool). register_of other m + cond b (floored (sample_heat m.card s)) 0) e ∙ add-zero _
-other_after m s a other (counts x h) e = unchanged other m
-other_after m s a other (keeps x) e = refl
-
-pub other_stays : OtherStays
-other_stays m s other e = other_after m s (step_of m s) other (step_leaves m s) e

@@ -1,5 +1,4 @@
--- The step's answer by cases, document 01, "Refusals, by the place of the check", column "Left behind". `StepAnswers` of specs/Theorems.antt
--- says that every answer of the step is one of these.
+-- The step's answer by cases, with what each refusal leaves behind: every answer of the step is one of these.
 use Rattle.std.specs.Prelude.{◌≡◌, Ok, Err}
 use Rattle.quantity.specs.Refusals.{first_of, NoneApplies}
 use Rattle.quantity.specs.declared.refusal.Refusal.{Refusal}

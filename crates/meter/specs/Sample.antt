@@ -35,7 +35,7 @@ abbrev pub return_of : Card → Sample → Result Temperature Unmeasured
 return_of c s = temperature_of c.sensor s.return_reading
 
 -- A default where a reading has no temperature, so that the definitions below speak of any sample: 0 °C. No accepted sample has it:
--- `reading_rows` refuse such a sample (`AcceptedHasTemperatures` of specs/Theorems.antt).
+-- `reading_rows` refuse such a sample, and the step promises so (`AcceptedHasTemperatures` of specs/Theorems.antt).
 abbrev pub missing_temperature : Temperature
 missing_temperature = record { 0 = 0 }
 

@@ -1,6 +1,6 @@
 // The card of a meter (document 01, "Card") and its refusals.
 ghost use Rattle.std.specs.Prelude.{◌≡◌, not, ◌&&◌, ◌||◌, ◌*◌, ◌^◌, ltb, leb};
-ghost use Rattle.quantity.specs.Refusals.{first_of};
+ghost use Rattle.quantity.specs.Refusals.{refusal_number, first_of, first_number};
 ghost use Rattle.quantity.specs.Units.{last_degree, largest_kelvins};
 ghost use Rattle.meter.specs.Card.{fields_of, card_rows};
 
@@ -91,7 +91,8 @@ impl Card {
     // The card's rows, 10 to 18.
     #[tactic(auto, unfolding(crate::specs::Card::card_rows))]
     pub fn refusal(self) -> Result<(), Refusal>
-        ensures { result ≡ first_of (card_rows self) }
+        ensures answer { result ≡ first_of (card_rows self) }
+        ensures number { refusal_number result ≡ first_number (card_rows self) }
     {
         first_refusal(&[
             Refusal::Serial.when(is_outside(self.serial, 1, 99999999)),

@@ -1,6 +1,8 @@
 // The fresh meter (document 01, "Card"; document 02, request 2).
 ghost use Rattle.std.specs.Prelude.{◌≡◌};
-ghost use Rattle.meter.specs.State.{fresh_of};
+ghost use Rattle.quantity.specs.Refusals.{refusal_number, first_number};
+ghost use Rattle.meter.specs.State.{fresh_rows, fresh_of};
+ghost use Rattle.meter.specs.Theorems.{FreshExactly};
 
 use crate::card::Card;
 use crate::edition::is_other_edition;
@@ -8,8 +10,17 @@ use crate::state::Meter;
 use quantity::{Refusal, first_refusal};
 
 // The fresh meter of an accepted card in an edition: zeros.
-#[tactic(auto, using(quantity::proofs::Rows::parts), unfolding(crate::specs::State::fresh_of))]
 pub fn fresh(card: Card, edition: u64) -> Result<Meter, Refusal>
+    ensures answer { result ≡ fresh_of card edition }
+    ensures number { refusal_number result ≡ first_number (fresh_rows card edition) }
+    ensures fresh_exactly { FreshExactly card edition result }
+{
+    made(card, edition)
+}
+
+// The fresh meter by its equation alone, as `taken` of the step is.
+#[tactic(auto, using(quantity::proofs::Rows::parts), unfolding(crate::specs::State::fresh_of))]
+fn made(card: Card, edition: u64) -> Result<Meter, Refusal>
     ensures { result ≡ fresh_of card edition }
 {
     card.refusal()?;

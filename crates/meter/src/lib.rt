@@ -5,6 +5,7 @@
 mod card;
 mod edition;
 mod fresh_meter;
+pub mod laws;
 mod limits;
 mod measurement;
 mod profile;

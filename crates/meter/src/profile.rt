@@ -1,9 +1,11 @@
 // The day profile by quarter hours (document 02, request 7): the step for a sample that comes with its quarter's index.
-ghost use Rattle.std.specs.Prelude.{◌≡◌, IfOk, Ok, ltb};
+ghost use Rattle.std.specs.Prelude.{◌≡◌, ◌++◌, IfOk, Ok, ltb};
 ghost use Rattle.std.specs.List.{list_any};
 ghost use Rattle.std.specs.Result.{result_and};
-ghost use Rattle.quantity.specs.Refusals.{first_of};
+ghost use Rattle.quantity.specs.Refusals.{refusal_number, first_of, first_number};
+ghost use Rattle.meter.specs.Step.{card_and_state_rows, sample_rows};
 ghost use Rattle.meter.specs.Profile.{zero_cells, profile_rows, by_profile, in_quarter_of};
+ghost use Rattle.meter.specs.Theorems.{InQuarterExactly, OtherCellsStay, CellAsRegister};
 ghost use Rattle.meter.specs.Inside.Quarters.{Admitted};
 
 use crate::sample::Sample;
@@ -30,8 +32,19 @@ pub fn empty_profile() -> [u64; QUARTERS]
 
 // Takes one sample with the index of its quarter. Refused by 73, meter and cells are unchanged. Otherwise the step answers, and an accepted
 // heat sample adds its floored heat to the cell of its index.
-#[tactic(auto, unfolding(crate::specs::Profile::in_quarter_of))]
 pub fn step_in_quarter(m: Meter, cells: [u64; QUARTERS], s: Sample, index: u64) -> Profiled
+    ensures answer { result ≡ in_quarter_of m cells s index }
+    ensures number { refusal_number result.stepped.outcome ≡ first_number (profile_rows cells index ++ (card_and_state_rows m ++ sample_rows m s)) }
+    ensures in_quarter_exactly { InQuarterExactly m cells s index result }
+    ensures other_cells_stay { OtherCellsStay cells index result }
+    ensures cell_as_register { CellAsRegister m cells s index result }
+{
+    taken_in_quarter(m, cells, s, index)
+}
+
+// The call by its equation alone, as `taken` of the step is.
+#[tactic(auto, unfolding(crate::specs::Profile::in_quarter_of))]
+fn taken_in_quarter(m: Meter, cells: [u64; QUARTERS], s: Sample, index: u64) -> Profiled
     ensures { result ≡ in_quarter_of m cells s index }
 {
     match Quarter::of(cells, index) {

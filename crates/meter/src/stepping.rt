@@ -1,9 +1,11 @@
 // The meter's step (document 01, "Meter's step"), in the order of the refusal table: card and state, then the sample's counts, its
 // readings, its ranges, and what it would add.
-ghost use Rattle.std.specs.Prelude.{◌≡◌, Ok};
+ghost use Rattle.std.specs.Prelude.{◌≡◌, ◌++◌, Ok};
 ghost use Rattle.std.specs.Result.{result_and};
-ghost use Rattle.quantity.specs.Refusals.{first_of};
-ghost use Rattle.meter.specs.Step.{sample_rows, accepting, by_sample, step_of};
+ghost use Rattle.quantity.specs.Refusals.{refusal_number, first_of, first_number};
+ghost use Rattle.meter.specs.Step.{card_and_state_rows, sample_rows, accepting, by_sample, step_of};
+ghost use Rattle.meter.specs.Answers.{Answers};
+ghost use Rattle.meter.specs.Theorems.{AcceptedExactly, AcceptedHasTemperatures};
 
 use crate::measurement::Measurement;
 use crate::sample::Sample;
@@ -21,8 +23,19 @@ pub struct Stepped {
 // Takes one sample. Refused by a row of card or state, the meter is unchanged; refused by a row of the sample, its refused count is one
 // more; accepted, the floored heat goes to the register whose own the sample is, the volume to the volume, the seconds of one above q_s to
 // the kept ones, and the accepted count is one more.
-#[tactic(auto, unfolding(crate::specs::Step::step_of))]
 pub fn step(m: Meter, s: Sample) -> Stepped
+    ensures answer { result ≡ step_of m s }
+    ensures number { refusal_number result.outcome ≡ first_number (card_and_state_rows m ++ sample_rows m s) }
+    ensures answers { Answers m s result }
+    ensures accepted_exactly { AcceptedExactly m s result }
+    ensures accepted_has_temperatures { AcceptedHasTemperatures m.card s result }
+{
+    taken(m, s)
+}
+
+// The step by its equation alone: what follows from it is proved once, where `step` promises it, and not for each of the two answers here.
+#[tactic(auto, unfolding(crate::specs::Step::step_of))]
+fn taken(m: Meter, s: Sample) -> Stepped
     ensures { result ≡ step_of m s }
 {
     match Usable::of(m) {

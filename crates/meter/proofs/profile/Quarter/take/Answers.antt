@@ -8,5 +8,5 @@ pub overflow_add-cells : goal.overflow_add-cells
 overflow_add-cells c =
     let q = c.args.self in
     let long : length q.cells ≡ quarters = search rules in
-    let small = fits c.args.m q.cells c.args.s q.index _ long q.bounds c.step-stepped.ensures in
+    let small = fits c.args.m q.cells c.args.s q.index _ long q.bounds c.step-stepped.ensures.answer in
     omega (arith, small)

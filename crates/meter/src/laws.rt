@@ -1,0 +1,50 @@
+// What is proved of whole lists of calls, and of two editions together, whatever the card, the meter and the samples.
+ghost use Rattle.meter.specs.Theorems.{RegisterBounds, OwnExactly, CallsExist, Given, OnlyMarks, OnlyLast, HeatOnly, KeptSeconds};
+ghost use Rattle.meter.specs.Theorems.{StaysWithinLimits, LackedStaysZero, NoOtherRefusal, Counted, HeatAsInEdition2};
+ghost use Rattle.meter.specs.Theorems.{CellsTogether, CellsWithinLimit, IndexAlone, DayExists, OnlyDay, DayStands};
+
+/// Each register lies within its bounds of the exact sum of its own samples; and the lists of calls of which this is said are those that a caller
+/// can make, every one of them.
+pub fn register_bounds()
+    ensures register_bounds { RegisterBounds }
+    ensures own_exactly { OwnExactly }
+    ensures calls_exist { CallsExist }
+    ensures given { Given }
+    ensures only_marks { OnlyMarks }
+    ensures only_last { OnlyLast }
+{}
+
+/// In an edition that counts no cold the heat register's sum leaves no accepted sample out, and the cold register's is nothing.
+pub fn heat_only()
+    ensures { HeatOnly }
+{}
+
+/// The kept seconds are those of the accepted samples above q_s.
+pub fn kept_seconds()
+    ensures { KeptSeconds }
+{}
+
+/// A meter that calls lead to from a fresh one keeps all limits, lacks what its edition lacks, is refused by its full counts alone, and has counted
+/// each call but those refused by 21 or 73.
+pub fn meter_along_calls()
+    ensures stays_within_limits { StaysWithinLimits }
+    ensures lacked_stays_zero { LackedStaysZero }
+    ensures no_other_refusal { NoOtherRefusal }
+    ensures counted { Counted }
+{}
+
+/// An edition 3 meter answers a sample with supply at or above return as an edition 2 meter does.
+pub fn heat_as_in_edition_2()
+    ensures { HeatAsInEdition2 }
+{}
+
+/// The cells of a day together are what the heat register grew by, and none passes its limit; and the calls of which this is said are those that a
+/// caller can make, every one of them, and are among those of the register theorem.
+pub fn cells_together()
+    ensures cells_together { CellsTogether }
+    ensures cells_within_limit { CellsWithinLimit }
+    ensures index_alone { IndexAlone }
+    ensures day_exists { DayExists }
+    ensures only_day { OnlyDay }
+    ensures day_stands { DayStands }
+{}
