@@ -88,7 +88,7 @@ impl From<Card> for [u64; CARD_FIELDS] {
 }
 
 impl Card {
-    // The card's rows, 10 to 18.
+    /// The card's rows, 10 to 18.
     #[tactic(auto, unfolding(crate::specs::Card::card_rows))]
     pub fn refusal(self) -> Result<(), Refusal>
         ensures answer { result ≡ first_of (card_rows self) }

@@ -30,8 +30,8 @@ pub fn empty_profile() -> [u64; QUARTERS]
     [0; QUARTERS]
 }
 
-// Takes one sample with the index of its quarter. Refused by 73, meter and cells are unchanged. Otherwise the step answers, and an accepted
-// heat sample adds its floored heat to the cell of its index.
+/// Takes one sample with the index of its quarter. Refused by 73, meter and cells are unchanged. Otherwise the step answers, and an accepted
+/// heat sample adds its floored heat to the cell of its index.
 pub fn step_in_quarter(m: Meter, cells: [u64; QUARTERS], s: Sample, index: u64) -> Profiled
     ensures answer { result ≡ in_quarter_of m cells s index }
     ensures number { refusal_number result.stepped.outcome ≡ first_number (profile_rows cells index ++ (card_and_state_rows m ++ sample_rows m s)) }

@@ -20,9 +20,9 @@ pub struct Stepped {
     pub outcome: Result<(), Refusal>,
 }
 
-// Takes one sample. Refused by a row of card or state, the meter is unchanged; refused by a row of the sample, its refused count is one
-// more; accepted, the floored heat goes to the register whose own the sample is, the volume to the volume, the seconds of one above q_s to
-// the kept ones, and the accepted count is one more.
+/// Takes one sample. Refused by a row of card or state, the meter is unchanged; refused by a row of the sample, its refused count is one
+/// more; accepted, the floored heat goes to the register whose own the sample is, the volume to the volume, the seconds of one above q_s to
+/// the kept ones, and the accepted count is one more.
 pub fn step(m: Meter, s: Sample) -> Stepped
     ensures answer { result ≡ step_of m s }
     ensures number { refusal_number result.outcome ≡ first_number (card_and_state_rows m ++ sample_rows m s) }
