@@ -18,11 +18,11 @@ returns-in_err-refusal c =
     let r = c.read_numbers in
     passed_on _ _ c.from_residual-in_err-refusal.ensures.1
     ∙ refused_after c.args.edition card c.args.after.now _ _ r.ensures r.auto.out _ c.in_ok-size.was _ (card_line _ _ c.from-card.ensures)
-    _ (sym c.in_err-refusal.was ∙ c.refusal.ensures)
+    _ (sym c.in_err-refusal.was ∙ c.refusal.ensures.answer)
 
 pub returns : goal.returns
 unfolding count_of content_rows
 returns c =
     let r = c.read_numbers in
     read_after c.args.edition card c.args.after.now _ _ r.ensures r.auto.out _ c.in_ok-size.was _ (card_line _ _ c.from-card.ensures)
-    (sym c.in_ok-refusal.was ∙ c.refusal.ensures)
+    (sym c.in_ok-refusal.was ∙ c.refusal.ensures.answer)
