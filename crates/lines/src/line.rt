@@ -2,7 +2,7 @@
 use meter::{Card, Meter, Sample};
 use quantity::Refusal;
 
-// What line E carries, in the papers' order: a meter's end state. Every edition's fields stand here; one that an edition lacks is zero.
+/// What line E carries, in its order: a meter's end state. Every edition's fields stand here; one that an edition lacks is zero.
 #[derive(Clone, Copy, Debug, PartialEq, Eq)]
 pub struct Totals {
     pub accepted: u64,
@@ -76,7 +76,7 @@ impl From<Meter> for Totals {
     }
 }
 
-// A line, by its kind. Any content can stand here.
+/// A line, by its kind. Any content can stand here.
 #[derive(Clone, Copy, Debug, PartialEq, Eq)]
 pub enum Line {
     Opening,
@@ -85,14 +85,14 @@ pub enum Line {
     End(Totals),
 }
 
-// What is read and written: a line in its edition. The opening names the edition; the other lines stand in that of their opening.
+/// What is read and written: a line in its edition. The opening names the edition; the other lines stand in that of their opening.
 #[derive(Clone, Copy, Debug, PartialEq, Eq)]
 pub struct EditionLine {
     pub edition: u64,
     pub line: Line,
 }
 
-// What may come, as the reader is told, with the edition of every line but the opening.
+/// What may come, as the reader is told, with the edition of every line but the opening.
 #[derive(Clone, Copy, Debug, PartialEq, Eq)]
 pub enum MayCome {
     Opening,
@@ -100,14 +100,14 @@ pub enum MayCome {
     SampleOrEnd(u64),
 }
 
-// What stands at the front of some bytes: a line in its edition, and how many bytes it takes.
+/// What stands at the front of some bytes: a line in its edition, and how many bytes it takes.
 #[derive(Clone, Copy, Debug, PartialEq, Eq)]
 pub struct Front {
     pub line: EditionLine,
     pub size: usize,
 }
 
-// The refusal of a file, and the number of the line at which it stands.
+/// The refusal of a file, and the number of the line at which it stands.
 #[derive(Clone, Copy, Debug, PartialEq, Eq)]
 pub struct RefusedAt {
     pub refusal: Refusal,

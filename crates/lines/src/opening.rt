@@ -8,6 +8,7 @@ ghost use Rattle.lines.specs.Inside.Parts.{put_front};
 
 use meter::LAST_EDITION;
 
+/// How many bytes an opening has.
 pub const OPENING_LENGTH: usize = 14;
 
 // Before a comma, the edition's digit and a line feed.

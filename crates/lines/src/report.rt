@@ -1,5 +1,4 @@
-// The line that the audit program prints (document 01, "Edges to try": "prints R, serial, accepted, refused, register, volume; or X, refusal,
-// line; ended by byte 0A").
+// The line that the audit program prints: R and what a file ends with, or X and the first refusal with its line.
 ghost use Rattle.std.specs.Prelude.{◌≡◌, ◌≤◌, length};
 ghost use Rattle.lines.specs.Line.{text_of};
 ghost use Rattle.lines.specs.Report.{report_text, most_reported, longest_output, output_of};
@@ -14,8 +13,8 @@ const MOST_DIGITS_64: usize = 20;
 // No output line is longer: a letter, five numbers, each after a comma, and the line feed.
 const LONGEST: usize = 1 + MOST_REPORTED * (1 + MOST_DIGITS_64) + 1;
 
-// What an audit found: the state that the file ends with, or the first refusal and its line. No Result: the line is printed of any
-// numbers, and of a `Refusal` alone the public operation would print fewer lines than it did.
+/// What an audit found: the state that the file ends with, or the first refusal and its line.
+// No Result: the line is printed of any numbers, and of a `Refusal` alone the public operation would print fewer lines than it did.
 #[derive(Clone, Copy)]
 pub enum Report {
     EndState {
@@ -31,16 +30,16 @@ pub enum Report {
     },
 }
 
-// The first length of the bytes are the line. It comes by value, so that no space of a caller can be too short for it. Array and length stay two
-// fields: the contract gives every byte, also those after the line, which an ArrayVec or a model of the text would not say; and a ghost field with
-// the bound of the length was tried, but then `output_of` of specs/, which is of any text, has to prove it.
+/// The first length of the bytes are the line. It comes by value, so that no space of a caller can be too short for it.
+// Array and length stay two fields: the contract gives every byte, also those after the line, which an ArrayVec or a model of the text would not say; and
+// with a ghost field for the bound of the length, `output_of` of specs/, which is of any text, would have to prove it.
 #[derive(Clone, Copy)]
 pub struct OutputLine {
     pub bytes: [u8; LONGEST],
     pub length: usize,
 }
 
-// The report's line.
+/// The report's line.
 #[tactic(auto, unfolding(crate::specs::Report::report_text))]
 pub fn report_line(report: Report) -> OutputLine
     ensures answer { result ≡ output_of (report_text report) }
