@@ -1,7 +1,6 @@
 -- Each refusal of the reader is answered exactly where its own condition is the first that holds.
 -- Assumes nothing.
 use Rattle.std.proofs.Common.{Result, Ok, Err}
-use Rattle.std.specs.Result.{result_and}
 use mathlib.Core.Path.{◌≡◌, refl, sym, ap, ◌∙◌, subst}
 use mathlib.Core.Bool.{Bool, true, false, cond, not, ◌&&◌, and-true}
 use mathlib.Core.List.{List}
@@ -10,7 +9,7 @@ use native.Mathlib.Omega.{arith}
 use Rattle.quantity.specs.Refusals.{first_of, refusal_number, first_number}
 use Rattle.quantity.specs.declared.refusal.Refusal.{Refusal}
 use Rattle.quantity.specs.declared.refusal.Refusal.TheVariants as R
-use Rattle.quantity.proofs.Rows.{answer_number}
+use Rattle.quantity.proofs.Rows.{number_of_rows}
 use Rattle.meter.specs.Edition.{is_other_edition}
 use Rattle.meter.specs.Card.{card_rows}
 use Rattle.lines.specs.Line.{sample, totals, first_field, count_of, card_of, line_of, content_rows}
@@ -26,12 +25,10 @@ use Rattle.lines.proofs.Faults.{misshapen_first}
 
 -- a refusal is that of the rows
 of_rows : (line : EditionLine) (n : ℕ) (r : Refusal) (o : Result Unit Refusal) → answer_of line n o ≡ Err r → o ≡ Err r
-unfolding answer_of
 of_rows line n r (Ok u) e = absurd (let z : ◌≡◌ {A = ℕ} 0 1 = cc e in omega arith)
 of_rows line n r (Err q) e = ap (λ (x : Refusal). Err x) (cc e)
 
 rows_of : (line : EditionLine) (n : ℕ) (r : Refusal) (o : Result Unit Refusal) → o ≡ Err r → answer_of line n o ≡ Err r
-unfolding answer_of
 rows_of line n r o e = rw e
 
 -- the row of the edition, the rows of a line's shape, and what the rows after them answer
@@ -126,13 +123,6 @@ refused_exactly may bs x e r = (
 )
 
 -- and the number that is given is that of the rows
-answered_rows : (line : EditionLine) (n : ℕ) (o : Result Unit Refusal) → result_and (answer_of line n o) (Ok (tt {0})) ≡ o
-unfolding answer_of
-answered_rows line n (Ok u) = refl
-answered_rows line n (Err r) = refl
-
 pub read_number : (may : MayCome) (bs : List ℕ) (x : Result Front Refusal) → x ≡ read_of may bs → refusal_number x ≡ first_number (read_rows may bs)
 unfolding read_of
-read_number may bs x e =
-    answer_number x (read_rows may bs)
-    (ap (λ (y : Result Front Refusal). result_and y (Ok (tt {0}))) e ∙ answered_rows (line_in may bs) (size_of bs) (first_of (read_rows may bs)))
+read_number may bs x e = ap refusal_number e ∙ number_of_rows (read_rows may bs) _

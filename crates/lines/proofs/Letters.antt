@@ -75,7 +75,6 @@ module _ (e : ℕ) (k : LineKind) (after : List ℕ) where
   by_shape = ap (answer_of (in_edition e said) (size_of after + 1)) (parts (shape_rows [] (count_of e k) after) (content_rows said))
 
   refused_shape : (r : Refusal) → shape ≡ Err r → after_letter e k after ≡ Err r
-  unfolding answer_of
   refused_shape r h = by_shape ∙ rw h
 
 -- a first field that goes on after the letter is refused with 61
@@ -115,9 +114,7 @@ module _ (e : ℕ) (k : LineKind) (after out : List ℕ) (x : Result ℕ Refusal
         rw (same, a.1.1) (sym (by_shape e k after ∙ rw accepted))
 
     pub read_after : Ok tt ≡ first_of (content_rows line) → front_of (in_edition e line) n ≡ after_letter e k after
-    unfolding answer_of
     read_after o = ap (answer_of (in_edition e line) n) o ∙ content_decides
 
     pub refused_after : (r : Refusal) → Err r ≡ first_of (content_rows line) → Err r ≡ after_letter e k after
-    unfolding answer_of
     refused_after r o = ap (answer_of (in_edition e line) n) o ∙ content_decides

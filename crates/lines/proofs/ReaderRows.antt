@@ -31,7 +31,7 @@ use Rattle.lines.proofs.Letters.{by_letter, other_first}
 
 -- another edition, told or not found, is refused before all else
 pub edition_refused : (may : MayCome) (bs : List ℕ) → is_other_edition (edition_in may bs) ≡ true → read_of may bs ≡ Err R.Edition
-unfolding read_of read_rows first_of answer_of
+unfolding read_of read_rows first_of
 edition_refused may bs h = simp h
 
 -- and otherwise the rows after that one decide
@@ -48,7 +48,7 @@ pub opening_sized : (bs : List ℕ) (e : ℕ) → is_other_edition e ≡ false �
 opening_sized bs e h p = ap size_of (opening_front bs e h p) ∙ bytes_size (opening_in e) (drop opening_length bs) ∙ opening_length_lem e h
 
 pub opening_read : (bs : List ℕ) (e : ℕ) → is_other_edition e ≡ false → edition_in M.Opening bs ≡ e → read_of M.Opening bs ≡ front_of (opening_in e) opening_length
-unfolding read_of read_rows later_rows first_of line_in due_kind line_of answer_of
+unfolding read_of read_rows later_rows first_of line_in due_kind line_of
 opening_read bs e h p = simp (p, h, opening_sized bs e h p)
 
 pub opening_told : (may : MayCome) (bs : List ℕ) (e : ℕ) → is_other_edition e ≡ false → e ≡ edition_in may bs → may ≡ M.Opening →
@@ -92,7 +92,7 @@ module _ (may : MayCome) (bs : List ℕ) (o : is_other_edition (edition_in may b
 
   -- where the bytes begin with another first field
   wrong_first : is_same (first_in bs) (first_field k) ≡ false → read_of may bs ≡ Err R.Shape
-  unfolding line_rows answer_of
+  unfolding line_rows
   wrong_first h =
       let e : ℕ = edition_in may bs in
       let rows : first_of (shape_rows (first_field k) (count_of e k) bs ++ content_rows (line_of k (numbers_in bs))) ≡ Err R.Shape =

@@ -15,13 +15,14 @@ use borrow.Author.Tests.{ltb-false, ltb-true, lt-leb}
 use Rattle.quantity.specs.Refusals.{first_of, NoneApplies}
 use Rattle.quantity.specs.declared.refusal.Refusal.{Refusal}
 use Rattle.quantity.specs.declared.refusal.Refusal.TheVariants as R
-use Rattle.quantity.proofs.Rows.{parts, no_refusal, none_applies, none_of_parts}
+use Rattle.std.specs.Result.{result_and}
+use Rattle.quantity.proofs.Rows.{answered, parts, no_refusal, none_applies, none_of_parts}
 use Rattle.meter.specs.Edition.{is_other_edition}
 use Rattle.lines.specs.Bytes.{letter_c, letter_h, letter_s}
 use Rattle.lines.specs.Number.{decimal, most_digits, some_from, some_long}
 use Rattle.lines.specs.Line.{LineKind, opening, card, sample, totals, kind_of, first_field, all_numbers_of, numbers_of, lacked_of, text_of, bytes_of, opening_in, content_rows, count_of, line_of, opening_length}
-use Rattle.lines.specs.Reading.{front_of, is_same, size_of, fields_in, first_in, numbers_in, shape_rows, edition_in, due_kind, line_in, line_rows, later_rows, read_rows, answer_of, read_of, rest_of}
-use Rattle.lines.specs.Writing.{Writable, write_rows, place_of, written_of, put_at, buffer_after}
+use Rattle.lines.specs.Reading.{front_of, is_same, size_of, fields_in, first_in, numbers_in, shape_rows, edition_in, due_kind, line_in, line_rows, later_rows, read_rows, read_of, rest_of}
+use Rattle.lines.specs.Writing.{Writable, write_rows, written_of, put_at, buffer_after}
 use Rattle.lines.specs.RoundTrip.{told_in, told_of, WritesBack}
 use Rattle.lines.specs.Theorems.{CanBeWritten, WrittenThenRead, ReadThenWritten, ReadWithin, OneLine}
 use Rattle.lines.specs.declared.line.Line.{Line}
@@ -34,7 +35,7 @@ use Rattle.lines.proofs.LineLaws.{line_of_lem, kind_line, numbers_line, line_lac
 use Rattle.lines.proofs.LineBytes.{line_bytes_lem, bytes_fields, bytes_numbers, bytes_size, bytes_shape}
 use Rattle.lines.proofs.Openings.{edition_most, opening_length_lem, opened_exactly}
 use Rattle.lines.proofs.ReaderRows.{opening_front, opening_sized, opening_read, by_due}
-use Rattle.lines.proofs.WriterRows.{next_place, unrefused, refused_place, by_text, text_room, writable_exactly}
+use Rattle.lines.proofs.WriterRows.{unrefused, refused_place, by_text, text_room, writable_exactly}
 
 -- ---- what is written is read back
 
@@ -51,7 +52,7 @@ module _ (may : MayCome) (line : EditionLine) (rest : List ℕ) where
 
   reads_due : edition_in may bs ≡ line.edition → due_kind may bs ≡ kind_of line.line → later_rows may bs ≡ line_rows (edition_in may bs) (due_kind may bs) bs
       → CanBeWritten line → read_of may bs ≡ front_of line (length (bytes_of line))
-  unfolding line_rows answer_of
+  unfolding line_rows
   reads_due p d later w =
       let k : LineKind = kind_of line.line in
       let same : line_of k (numbers_in bs) ≡ line.line = ap (line_of k) (bytes_numbers line rest) ∙ line_of_lem line w.lacked_zero in
@@ -88,7 +89,7 @@ put_from buf at text h = drop_at (take at buf) (text ++ drop (at + length text) 
 pub written_then_read : WrittenThenRead
 unfolding written_of buffer_after rest_of
 written_then_read buf at line next e =
-    let p = next_place next (at + length (bytes_of line)) (first_of (write_rows (length buf) at line)) e in
+    let p = answered (first_of (write_rows (length buf) at line)) (at + length (bytes_of line)) next e in
     let w = unrefused (length buf) at line p.0 in
     let after : drop at (put_at buf at (bytes_of line)) ≡ bytes_of line ++ drop (at + length (bytes_of line)) buf = put_from buf at (bytes_of line) w.within in
     let size : next - at ≡ length (bytes_of line) = omega (arith, p.1) in
@@ -105,16 +106,9 @@ written_then_read buf at line next e =
 
 -- ---- what is read is what is written
 
-answered : (line got : EditionLine) (n m : ℕ) (o : Result Unit Refusal) → answer_of got m o ≡ front_of line n → (o ≡ Ok tt) × ((got ≡ line) × (m ≡ n))
-unfolding answer_of
-answered line got n m (Ok u) e =
-    let same : record { line = got; size = m } ≡ record { line = line; size = n } = cc e in
-    (refl, (ap (λ (f : Front). f.line) same, ap (λ (f : Front). f.size) same))
-answered line got n m (Err r) e = absurd (let z : ◌≡◌ {A = ℕ} 0 1 = cc e in omega arith)
-
 -- the writer refuses a line that can be written only for the buffer's sake
 refused_place_or_room : (line : EditionLine) → CanBeWritten line → (size at : ℕ) (r : Refusal) → written_of size at line ≡ Err r → (r ≡ R.PlaceBeyond) ⊎ (r ≡ R.Room)
-unfolding written_of place_of
+unfolding written_of
 refused_place_or_room line w size at r e =
     elim (ltb size at) as (λ t. ltb size at ≡ t → (r ≡ R.PlaceBeyond) ⊎ (r ≡ R.Room)) [
       | true ↦ λ t. inl (number (first_of (write_rows size at line)) R.PlaceBeyond (refused_place size at line (ltb-true size at t)) e)
@@ -122,7 +116,7 @@ refused_place_or_room line w size at r e =
           (by_text size at line (ltb-false size at t) w.edition (no_refusal (content_rows line.line) w.content) ∙ text_room (size - at) line w))
     ] refl
   where
-    number : (o : Result Unit Refusal) (k : Refusal) → o ≡ Err k → place_of (at + length (bytes_of line)) o ≡ Err r → r ≡ k
+    number : (o : Result Unit Refusal) (k : Refusal) → o ≡ Err k → result_and o (Ok (at + length (bytes_of line))) ≡ Err r → r ≡ k
     number o k c d = let f : Err k ≡ Err r = rw c at d in sym (cc f)
 
     room : (t : Bool) → first_of (write_rows size at line) ≡ cond t (Err R.Room) (Ok tt) → r ≡ R.Room
@@ -196,9 +190,9 @@ writes (M.SampleOrEnd e) bs o h = writes_later e bs (is_same (first_in bs) (firs
 pub read_then_written : ReadThenWritten
 unfolding read_of
 read_then_written may bs line n e =
-    let a = answered line (line_in may bs) n (size_of bs) (first_of (read_rows may bs)) e in
+    let a = answered (first_of (read_rows may bs)) (record { line = line_in may bs; size = size_of bs }) (record { line = line; size = n }) e in
     let r = rows_after may bs a.0 in
-    subst (λ (l : EditionLine). WritesBack may bs l n) a.1.0 (subst (λ (m : ℕ). WritesBack may bs (line_in may bs) m) a.1.1 (writes may bs r.0 r.1))
+    subst (λ (f : Front). WritesBack may bs f.line f.size) a.1 (writes may bs r.0 r.1)
 
 some_bytes : (line : EditionLine) → 1 ≤ length (bytes_of line)
 unfolding bytes_of text_of

@@ -13,13 +13,13 @@ use borrow.Author.Tests.{lt-ltb, le-ltb, ltb-false}
 use Rattle.quantity.specs.Refusals.{row, first_of, refusal_number, first_number}
 use Rattle.quantity.specs.declared.refusal.Refusal.{Refusal}
 use Rattle.quantity.specs.declared.refusal.Refusal.TheVariants as R
-use Rattle.quantity.proofs.Rows.{parts, none_applies, no_refusal, none_of_parts, answer_number}
+use Rattle.quantity.proofs.Rows.{parts, none_applies, no_refusal, none_of_parts, answered, number_of_rows}
 use Rattle.std.specs.Result.{result_and}
 use Rattle.quantity.proofs.Conditions.{neither}
 use Rattle.meter.specs.Edition.{is_other_edition}
 use Rattle.lines.specs.Number.{some_long, some_nonzero}
 use Rattle.lines.specs.Line.{numbers_of, lacked_of, bytes_of, content_rows}
-use Rattle.lines.specs.Writing.{text_rows, write_rows, place_of, written_of, Writable}
+use Rattle.lines.specs.Writing.{text_rows, write_rows, written_of, Writable}
 use Rattle.lines.specs.Theorems.{CanBeWritten, Fits, WrittenExactly}
 use Rattle.lines.specs.declared.line.EditionLine.{EditionLine}
 
@@ -82,12 +82,6 @@ module _ (size at : ℕ) (line : EditionLine) where
 -- for `write_refusal`
 pub ruleset stages = (first_stage, second_stage, third_stage, place_within)
 
--- a next place is answered where no row refuses
-pub next_place : (next n : ℕ) (o : Result Unit Refusal) → place_of n o ≡ Ok next → (o ≡ Ok tt) × (next ≡ n)
-unfolding place_of
-next_place next n (Ok u) e = (refl, sym (cc e))
-next_place next n (Err r) e = absurd (let z : ◌≡◌ {A = ℕ} 0 1 = cc e in omega arith)
-
 -- the rows of such a line's text are those of the room alone
 pub text_room : (room : ℕ) (line : EditionLine) → CanBeWritten line → first_of (text_rows room line) ≡ cond (ltb room (length (bytes_of line))) (Err R.Room) (Ok tt)
 unfolding first_of
@@ -95,14 +89,14 @@ text_room room line c = simp (c.short, c.lacked_zero)
 
 -- LAW: a line is written so far exactly where it can be written and fits
 pub written_exactly : (size at : ℕ) (line : EditionLine) (x : Result ℕ Refusal) → x ≡ written_of size at line → WrittenExactly size at line x
-unfolding written_of place_of
+unfolding written_of
 written_exactly size at line x e next = (forth, back)
   where
     forth : x ≡ Ok next → Fits size at line next
     forth f =
-        let p = next_place next (at + length (bytes_of line)) (first_of (write_rows size at line)) (sym e ∙ f) in
+        let p = answered (first_of (write_rows size at line)) (at + length (bytes_of line)) next (sym e ∙ f) in
         let u = unrefused size at line p.0 in
-        record { can = u.can; ends = p.1; room = omega (arith, p.1, u.room) }
+        record { can = u.can; ends = sym p.1; room = omega (arith, p.1, u.room) }
 
     back : Fits size at line next → x ≡ Ok next
     back f =
@@ -112,7 +106,7 @@ written_exactly size at line x e next = (forth, back)
         by_text size at line within f.can.edition (no_refusal (content_rows line.line) f.can.content)
         ∙ text_room (size - at) line f.can
         ∙ rw (le-ltb (size - at) (length (bytes_of line)) room) in
-        e ∙ ap (place_of (at + length (bytes_of line))) accepted ∙ ap (λ (n : ℕ). Ok n) (sym f.ends)
+        e ∙ ap (λ (o : Result Unit Refusal). result_and o (Ok (at + length (bytes_of line)))) accepted ∙ ap (λ (n : ℕ). Ok n) (sym f.ends)
 
 -- room for its bytes from the front on is enough
 pub writable_exactly : (line : EditionLine) → Writable line ↔ CanBeWritten line
@@ -124,13 +118,6 @@ writable_exactly line = (
 )
 
 -- and the number that is given is that of the rows
-placed_rows : (next : ℕ) (o : Result Unit Refusal) → result_and (place_of next o) (Ok (tt {0})) ≡ o
-unfolding place_of
-placed_rows next (Ok u) = refl
-placed_rows next (Err r) = refl
-
 pub write_number : (size at : ℕ) (line : EditionLine) (x : Result ℕ Refusal) → x ≡ written_of size at line → refusal_number x ≡ first_number (write_rows size at line)
 unfolding written_of
-write_number size at line x e =
-    answer_number x (write_rows size at line)
-    (ap (λ (y : Result ℕ Refusal). result_and y (Ok (tt {0}))) e ∙ placed_rows (at + length (bytes_of line)) (first_of (write_rows size at line)))
+write_number size at line x e = ap refusal_number e ∙ number_of_rows (write_rows size at line) _

@@ -1,6 +1,7 @@
 -- What reading one line means, document 01, "Archive text" and the row "Line and audit" of the refusal table, by the edition (document 02,
 -- request 2).
 use Rattle.std.specs.Prelude.{ℕ, zero, suc, ◌+◌, Bool, true, false, not, cond, ◌&&◌, ◌||◌, List, [], ◌∷◌, ◌++◌, map, eqb, length, get_or, take, drop, Result, Ok, Err}
+use Rattle.std.specs.Result.{result_and}
 use Rattle.quantity.specs.Refusals.{row, first_of}
 use Rattle.quantity.specs.declared.refusal.Row.{Row}
 use Rattle.quantity.specs.declared.refusal.Refusal.{Refusal}
@@ -108,9 +109,8 @@ abbrev pub front_of : EditionLine → ℕ → Result Front Refusal
 front_of line n = Ok (record { line = line; size = n })
 
 -- what the reader answers: these two, or the first row's refusal
-unfoldable pub answer_of : EditionLine → ℕ → Result Unit Refusal → Result Front Refusal
-answer_of line n (Ok u) = front_of line n
-answer_of line n (Err r) = Err r
+abbrev pub answer_of : EditionLine → ℕ → Result Unit Refusal → Result Front Refusal
+answer_of line n o = result_and o (front_of line n)
 
 unfoldable pub read_of : MayCome → List ℕ → Result Front Refusal
 read_of may bs = answer_of (line_in may bs) (size_of bs) (first_of (read_rows may bs))

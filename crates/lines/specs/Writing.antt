@@ -1,6 +1,7 @@
 -- What writing one line means, document 01, "Archive text": "The writer puts one line into a lent buffer from a given place on, touches no
 -- other byte, and answers the next place." The refusals are the row "Writer" of the table, with those of the edition (document 02, request 2).
 use Rattle.std.specs.Prelude.{◌≡◌, ℕ, ◌+◌, ◌-◌, ◌||◌, List, [], ◌∷◌, ◌++◌, ltb, length, take, drop, Result, Ok, Err}
+use Rattle.std.specs.Result.{result_and}
 use Rattle.quantity.specs.Refusals.{row, first_of}
 use Rattle.quantity.specs.declared.refusal.Row.{Row}
 use Rattle.quantity.specs.declared.refusal.Refusal.{Refusal}
@@ -23,12 +24,8 @@ write_rows size at line =
     row R.PlaceBeyond (ltb size at) ∷ row R.Edition (is_other_edition line.edition) ∷ (content_rows line.line ++ text_rows (size - at) line)
 
 -- the next place, or the first row's refusal
-unfoldable pub place_of : ℕ → Result Unit Refusal → Result ℕ Refusal
-place_of next (Ok u) = Ok next
-place_of next (Err r) = Err r
-
 unfoldable pub written_of : ℕ → ℕ → EditionLine → Result ℕ Refusal
-written_of size at line = place_of (at + length (bytes_of line)) (first_of (write_rows size at line))
+written_of size at line = result_and (first_of (write_rows size at line)) (Ok (at + length (bytes_of line)))
 
 -- a line that the writer can write, as an archive's are: given some room and a place, it answers a next place
 pub record Writable (line : EditionLine) : Type 0 where

@@ -16,7 +16,7 @@ use meter::is_other_edition;
 use quantity::{Refusal, first_refusal};
 
 /// Puts a line in its edition into buf from the place at on, and answers the next place.
-#[tactic(auto, using(crate::proofs::WriterRows::unrefused), unfolding(crate::specs::Writing::written_of, crate::specs::Writing::place_of, crate::specs::Writing::buffer_after))]
+#[tactic(auto, using(crate::proofs::WriterRows::unrefused), unfolding(crate::specs::Writing::written_of, crate::specs::Writing::buffer_after))]
 pub fn write_line(buf: &mut [u8], at: usize, what: EditionLine) -> Result<usize, Refusal>
     ensures answer { result ≡ written_of (length buf.old) at what }
     ensures buffer { buf.new ≡ buffer_after buf.old at (bytes_of what) result }

@@ -1,12 +1,12 @@
 -- The part that was lent comes back with the line at its front; and what is promised of the answer is promised of what writing means.
 use Rattle.std.proofs.Common.{◌∙◌, sym, refl, rules}
-use Rattle.lines.specs.Writing.{place_of, written_of, buffer_after}
+use Rattle.lines.specs.Writing.{written_of, buffer_after}
 use Rattle.lines.proofs.Puts.{lent_back}
 use Rattle.lines.proofs.WriterRows.{unrefused, write_number, written_exactly}
 use Rattle.lines.proofs.writing.write_line.Goals as goal
 
 pub returns-in_err-write_refusal-clause-answer : goal.returns-in_err-write_refusal-clause-answer
-unfolding written_of place_of
+unfolding written_of
 returns-in_err-write_refusal-clause-answer = search rules
 
 pub returns-in_err-write_refusal-clause-number : goal.returns-in_err-write_refusal-clause-number
@@ -16,7 +16,7 @@ pub returns-in_err-write_refusal-clause-written_exactly : goal.returns-in_err-wr
 returns-in_err-write_refusal-clause-written_exactly c = written_exactly _ _ _ _ (returns-in_err-write_refusal-clause-answer c)
 
 pub returns-clause-answer : goal.returns-clause-answer
-unfolding written_of place_of
+unfolding written_of
 returns-clause-answer = search rules
 
 pub returns-clause-buffer : goal.returns-clause-buffer
