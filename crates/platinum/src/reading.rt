@@ -17,12 +17,15 @@ use quantity::{End, Position, Refusal, Temperature};
 /// Why a reading has no temperature: there is no sensor kind to read it by, or it misses an end of the range.
 #[derive(Clone, Copy, Debug, PartialEq, Eq)]
 pub enum Unmeasured {
+    /// no sensor kind has that resistance
     NoSensor,
+    /// the reading lies beyond this end of the range, 0 to 180 °C
     Outside(End),
 }
 
-/// The temperature of a reading in 0.0001 ohm, of a sensor that a card's field names by its resistance. Any numbers are answered: the largest
-/// temperature at which the sensor's resistance is at most the reading, or why there is none.
+/// The temperature of a reading in 0.0001 ohm, of a sensor that a card's field names by its resistance at 0 °C in ohm: the largest one in hundredths of
+/// a degree, 0 to 180 °C, at which the sensor's resistance by IEC 60751 is at most the reading. Any numbers are answered. Where there is no temperature
+/// the answer says why, and is 12 for an unknown sensor, then 32 below 0 °C and 70 above 180 °C.
 pub fn temperature(field: u64, reading: u64) -> Result<Temperature, Unmeasured>
     ensures value { result ≡ temperature_of field reading }
     ensures refusal { refusal_of P.Alone result ≡ first_of (alone_rows field reading) }
@@ -60,7 +63,7 @@ fn of_sensor(sensor: Sensor, reading: u64) -> Result<Found, Unmeasured>
 }
 
 impl Unmeasured {
-    /// The refusal, by the place of the check.
+    /// The refusal, by the place of the check: 12 without a sensor, otherwise that of the end that was missed.
     #[tactic(auto, unfolding(crate::specs::Refusal::unmeasured_refusal))]
     pub fn refusal(self, position: Position) -> Refusal
         ensures { result ≡ unmeasured_refusal position self }
@@ -71,7 +74,8 @@ impl Unmeasured {
         }
     }
 
-    /// The refusal by the rows of the two ends alone, for a place where the sensor has been tested: that of the end that was missed.
+    /// The refusal by the rows of the two ends alone, for a place where the sensor has been tested: that of the end that was missed. An answer without
+    /// a sensor counts with the low end.
     #[tactic(auto, using(crate::proofs::Ends::outside_refusal, crate::proofs::Ends::outside_number), unfolding(quantity::specs::Refusals::first_of, quantity::specs::Refusals::first_number))]
     pub fn end_refusal(self, position: Position) -> Refusal
         ensures answer { Err result ≡ first_of (end_rows position (Err self)) }

@@ -4,7 +4,7 @@ ghost use Rattle.platinum.specs.Sensor.{sensor_of, resistance_of};
 
 use crate::reading::Unmeasured;
 
-/// A sensor kind, by its nominal resistance.
+/// A sensor kind, by its nominal resistance (IEC 60751).
 #[derive(Clone, Copy, Debug, PartialEq, Eq)]
 pub enum Sensor {
     Pt100,
@@ -12,7 +12,7 @@ pub enum Sensor {
     Pt1000,
 }
 
-/// The kind that a card's field names by its resistance.
+/// The kind that a card's field names by its resistance at 0 °C in ohm, or that there is none.
 impl TryFrom<u64> for Sensor {
     type Error = Unmeasured;
 
@@ -30,11 +30,14 @@ impl TryFrom<u64> for Sensor {
 }
 
 impl Sensor {
-    // Resistances at 0 °C, in ohm. Kept as constants, not discriminants: a rule of the project (docs/DECISIONS.md).
+    // Kept as constants, not discriminants: a rule of the project (docs/DECISIONS.md).
+    /// The resistance of a Pt 100 at 0 °C, in ohm.
     pub const OHM_PT100: u64 = 100;
 
+    /// The resistance of a Pt 500 at 0 °C, in ohm.
     pub const OHM_PT500: u64 = 500;
 
+    /// The resistance of a Pt 1000 at 0 °C, in ohm.
     pub const OHM_PT1000: u64 = 1000;
 
     /// The resistance at 0 °C, in ohm.

@@ -6,16 +6,18 @@ ghost use Rattle.quantity.specs.Theorems.{ReducedExactly};
 
 use crate::divisor::largest_common_divisor;
 
-// Any content can stand here.
+/// An exact fraction of two whole numbers. Any content can stand here.
 #[derive(Clone, Copy, Debug)]
 pub struct Fraction {
+    /// the upper number
     pub numerator: u64,
-    // the lower number
+    /// the lower number
     pub denominator: u64,
 }
 
 impl Fraction {
-    // The same fraction in lowest terms. With a zero denominator there is no fraction; two zeros, whose largest common divisor is 0, stay.
+    /// The same fraction in lowest terms. Nothing is refused: with a zero denominator there is no fraction, and both numbers are divided all the same;
+    /// two zeros, whose largest common divisor is 0, stay.
     #[tactic(auto, using(crate::proofs::LowestTerms::zeros_stay), unfolding(crate::specs::Divisors::reduced))]
     pub fn reduced(self) -> Fraction
         ensures answer { result ≡ reduced self }

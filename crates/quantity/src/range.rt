@@ -4,7 +4,7 @@ ghost use Rattle.quantity.specs.Range.{end_refusal};
 
 use crate::refusal::Refusal;
 
-// Where a temperature is asked for: by itself, in the supply pipe, in the return pipe.
+/// Where a temperature is asked for: by itself, in the supply pipe, in the return pipe.
 #[derive(Clone, Copy, Debug, PartialEq, Eq)]
 pub enum Position {
     Alone,
@@ -12,14 +12,15 @@ pub enum Position {
     Return,
 }
 
-// The end of the range that was missed.
+/// The end of the range that was missed.
 #[derive(Clone, Copy, Debug, PartialEq, Eq)]
 pub enum End {
     Low,
     High,
 }
 
-// The refusal of a missed end. Each position has one for either end.
+/// The refusal of a missed end of the range, 0 to 180 °C: 32 below it and 70 above it for a temperature alone or the supply's, 33 and 71 for the
+/// return's.
 #[tactic(auto, unfolding(crate::specs::Range::end_refusal))]
 pub fn end_refusal(position: Position, end: End) -> Refusal
     ensures { result ≡ end_refusal position end }

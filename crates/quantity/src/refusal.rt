@@ -6,7 +6,7 @@ ghost use Rattle.quantity.specs.Theorems.{RefusesNothing};
 use std::error::Error;
 use std::fmt;
 
-// A refusal, with the number that the papers give it.
+/// A refusal, with its number.
 #[derive(Clone, Copy, Debug, PartialEq, Eq)]
 pub enum Refusal {
     Serial = 10,
@@ -53,7 +53,7 @@ pub enum Refusal {
 }
 
 impl Refusal {
-    // A method, and no `From`: at each place it says that it is the number that is meant.
+    /// The refusal's number, 10 to 73. A method, and no `From`: at each place it says that it is the number that is meant.
     #[tactic(auto, unfolding(crate::specs::Refusals::number_of))]
     pub fn number(self) -> u64
         ensures { result ≡ number_of self }
@@ -61,7 +61,7 @@ impl Refusal {
         self as u64
     }
 
-    // The row that gives this refusal under a condition.
+    /// The row that gives this refusal under a condition.
     pub fn when(self, condition: bool) -> Row
         ensures { result ≡ row self condition }
     {
@@ -72,7 +72,7 @@ impl Refusal {
     }
 }
 
-// A refusal is printed as its number.
+/// A refusal is printed as its number.
 impl fmt::Display for Refusal {
     ghost use Rattle.std.specs.Prelude.{Some};
     ghost use Rattle.std.specs.Fmt.{decimal};
@@ -86,14 +86,14 @@ impl fmt::Display for Refusal {
 
 impl Error for Refusal {}
 
-// A row of the table: a refusal, and the condition under which it is given.
+/// A row of the table: a refusal, and the condition under which it is given.
 #[derive(Clone, Copy, Debug, PartialEq, Eq)]
 pub struct Row {
     pub refusal: Refusal,
     pub condition: bool,
 }
 
-// The refusal of the first row whose condition holds.
+/// The refusal of the first row whose condition holds, and none where no condition does.
 #[tactic(auto, using(crate::proofs::Rows::row_applies, crate::proofs::Rows::row_passes, crate::proofs::Rows::rows_end))]
 pub fn first_refusal(rows: &[Row]) -> Result<(), Refusal>
     ensures answer { result ≡ first_of rows.now }
@@ -108,8 +108,8 @@ pub fn first_refusal(rows: &[Row]) -> Result<(), Refusal>
     Ok(())
 }
 
-// Whether x lies outside low..high, a condition of many rows. Of temperatures and differences `Unit::is_outside` says the same; that a number is a unit
-// of itself, so that one would do for both, would be no plainer.
+/// Whether x lies outside low..high, both ends being inside: a condition of many rows. `Unit::is_outside` says the same of temperatures and differences.
+// To make a number a unit of itself, so that one function would do for both, would be no plainer.
 #[tactic(auto, unfolding(crate::specs::Refusals::outside))]
 pub fn is_outside(x: u64, low: u64, high: u64) -> bool
     ensures { result ≡ outside x low high }

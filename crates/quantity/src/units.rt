@@ -5,30 +5,33 @@ ghost use Rattle.std.specs.Ordering.{partial_lt};
 ghost use Rattle.std.proofs.Common.{rules};
 ghost use Rattle.quantity.specs.Units.{is_colder, is_smaller, distance_of};
 
-// The last temperature, in hundredths of a degree Celsius and in whole degrees, and the largest difference, in whole kelvins.
+/// The last temperature of the range, in hundredths of a degree Celsius.
 pub const LAST_HUNDREDTH: u64 = 18000;
 
+/// The last temperature of the range, in whole degrees Celsius.
 pub const LAST_DEGREE: u64 = 180;
 
+/// The largest difference of two temperatures of the range, in whole kelvins.
 pub const LARGEST_KELVINS: u64 = 180;
 
-// A unit in which hundredths are counted.
+/// A unit in which hundredths are counted.
 pub trait Unit: Copy + PartialOrd + Sized {
     ghost hundredths: { Self → ℕ };
 
     ghost is_less: { Self → Self → Bool };
 
+    /// A number of hundredths. Every count has a value, so nothing is refused.
     fn of_hundredths(count: u64) -> Self
         ensures { hundredths result ≡ count };
 
-    // A number of whole degrees, or of whole kelvins. Every count of 32 bits has a value, so nothing is refused.
+    /// A number of whole degrees, or of whole kelvins. Every count of 32 bits has a value, so nothing is refused.
     fn whole(count: u32) -> Self
         ensures { hundredths result ≡ count * 100 }
     {
         Self::of_hundredths(u64::from(count) * 100)
     }
 
-    // Whether the value lies outside low..high.
+    /// Whether the value lies outside low..high, both ends being inside.
     fn is_outside(self, low: Self, high: Self) -> bool
         ensures { result ≡ (is_less self low || is_less high self) }
     {
@@ -39,7 +42,7 @@ pub trait Unit: Copy + PartialOrd + Sized {
     ghost ordered: { (a b : Self) → partial_lt Self.PartialOrd.partial_cmp a b ≡ is_less a b };
 }
 
-// A temperature in hundredths of a degree Celsius.
+/// A temperature in hundredths of a degree Celsius.
 #[derive(Clone, Copy, Debug, PartialEq, Eq, PartialOrd, Ord)]
 pub struct Temperature(pub u64);
 
@@ -55,7 +58,7 @@ impl Unit for Temperature {
     }
 }
 
-// A temperature difference in hundredths of a kelvin.
+/// A temperature difference in hundredths of a kelvin.
 #[derive(Clone, Copy, Debug, PartialEq, Eq, PartialOrd, Ord)]
 pub struct Difference(pub u64);
 
@@ -72,7 +75,7 @@ impl Unit for Difference {
 }
 
 impl Temperature {
-    // How far two temperatures lie apart, whichever is the larger.
+    /// How far two temperatures lie apart, whichever is the larger.
     #[tactic(auto, unfolding(crate::specs::Units::distance_of))]
     pub fn distance(self, other: Temperature) -> Difference
         ensures { result ≡ distance_of self other }

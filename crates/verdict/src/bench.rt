@@ -15,11 +15,14 @@ use quantity::{Fraction, Refusal};
 /// The answer of the comparison and of the verdict.
 #[derive(Clone, Copy, Debug, PartialEq, Eq)]
 pub enum Verdict {
+    /// the error is at most the limit
     Pass,
+    /// the error is above it
     Fail,
 }
 
-/// Whether the indicated value's error lies within a limit in percent, reduced or not, or 55, which refuses a zero denominator too.
+/// Whether the indicated value's error lies within a limit in percent of the conventional true value, reduced or not. The two values have one unit. 55
+/// refuses a conventional true value of zero, a value above 10^12 − 1 and a limit with a zero denominator.
 pub fn compare_error(
     limit: Fraction,
     indicated: u64,
@@ -49,7 +52,8 @@ fn compared(limit: Fraction, indicated: u64, conventional_true: u64) -> Result<V
     }
 }
 
-/// Whether the indicated value passes at the test point, or the first of the refusals 50 to 55.
+/// Whether the indicated value's error lies within the maximum permissible error of OIML R 75-1 at the test point, or the first of the refusals 50 to 55.
+/// The two values have one unit.
 pub fn error_verdict(
     point: TestPoint,
     indicated: u64,

@@ -77,7 +77,8 @@ impl AdmittedPoint {
     }
 }
 
-/// The limit of a test point in percent, in lowest terms, or the first of the refusals 50 to 54.
+/// The maximum permissible error of OIML R 75-1 at a test point, in percent and in lowest terms; or the first of the refusals 50 of the part, 51 of the
+/// class, 52 of the stage, 53 of the differences and 54 of the flow rates.
 pub fn error_limit(point: TestPoint) -> Result<Fraction, Refusal>
     ensures answer { result ≡ error_limit_of point }
     ensures number { refusal_number result ≡ first_number (point_rows point) }

@@ -11,8 +11,9 @@ use crate::interpolation::enthalpy_rise;
 use crate::pair::Pair;
 use quantity::{Refusal, Temperature, first_refusal};
 
-/// The coefficient in J/(m³ K) of a supply and a return temperature, with the volume measured at the place. Any content is answered, a rule of the
-/// project: so it takes the three apart, and `Pair` holds them once they are tested.
+/// The heat coefficient of OIML R 75-1 in J/(m³ K), rounded down, of a supply and a return temperature, with the volume measured at the place, 1 supply
+/// or 2 return; or the first of the refusals 11 of the place, 70 and 71 above 180 °C, 36 of a supply below the return and 37 of two equal ones.
+/// Any content is answered, a rule of the project: so it takes the three apart, and `Pair` holds them once they are tested.
 pub fn coefficient(ts: Temperature, tr: Temperature, place: u64) -> Result<u64, Refusal>
     ensures answer { result ≡ coefficient_of water ts tr place }
     ensures number { refusal_number result ≡ first_number (coefficient_rows water ts tr place) }

@@ -2,10 +2,12 @@
 ghost use Rattle.std.specs.Prelude.{◌≡◌};
 ghost use Rattle.water.specs.Table.{water, entry_of};
 
-/// The water table at a whole degree: the specific enthalpy in mJ/kg and the specific volume in 10^-12 m³/kg.
+/// The water table at a whole degree, by IAPWS-IF97 at 1.6 MPa, rounded to nearest.
 #[derive(Clone, Copy, Debug, PartialEq, Eq)]
 pub struct Entry {
+    /// specific enthalpy, in mJ/kg
     pub enthalpy: u64,
+    /// specific volume, in 10^-12 m³/kg
     pub volume: u64,
 }
 
@@ -67,7 +69,7 @@ pub(crate) const VOLUME: [u32; ENTRIES] = [
     1121467629, 1122806552, 1124155064, 1125513261, 1126881244,
 ];
 
-/// The entry of a whole degree, or none past the last.
+/// The entry of a whole degree Celsius, or none past the last, 180.
 #[tactic(auto, using(crate::proofs::Entries::entry_at), unfolding(crate::specs::Table::entry_of))]
 pub fn table_entry(degree: u64) -> Option<Entry>
     ensures { result ≡ entry_of water degree }

@@ -10,8 +10,9 @@ use crate::interpolation::enthalpy_rise;
 use crate::pair::Pair;
 use quantity::{Refusal, Temperature, first_refusal};
 
-/// The floored heat in mJ of u mL between a supply and a return temperature, or its cold where the supply is the colder, with the volume
-/// measured at the place. Any content is answered, a rule of the project: so it takes the three apart.
+/// The heat in mJ, rounded down, of u mL of water between a supply and a return temperature (OIML R 75-1), or its cold where the supply is the colder,
+/// with the volume measured at the place, 1 supply or 2 return; or the first of the refusals 11 of the place, 70 and 71 above 180 °C and 31 of more
+/// than a million mL. Any content is answered, a rule of the project: so it takes the three apart.
 pub fn heat(u: u64, ts: Temperature, tr: Temperature, place: u64) -> Result<u64, Refusal>
     ensures answer { result ≡ heat_of water u ts tr place }
     ensures number { refusal_number result ≡ first_number (heat_rows water u ts tr place) }
