@@ -24,7 +24,7 @@ impl Read for Broken<'_> {
     }
 }
 
-// Takes a byte at a time, so many of them, and then only errors.
+// Takes a byte at a time, so many of them; then fails once, and takes on as before.
 #[derive(Drop)]
 struct Narrow {
     taken: Vec<u8>,
@@ -34,6 +34,7 @@ struct Narrow {
 impl Write for Narrow {
     fn write(&mut self, buf: &[u8]) -> io::Result<usize> {
         if self.room == 0 {
+            self.room = usize::MAX;
             return Err(io::Error::from(ErrorKind::ConnectionReset));
         }
         self.room -= 1;

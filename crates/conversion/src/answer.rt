@@ -2,7 +2,7 @@
 use lines::RefusedAt;
 use quantity::Refusal;
 
-// A refusal with its line, counted from 1; or the one that comes without a line.
+/// A refusal with its line, counted from 1; or the one that comes without a line: 66, of the output buffer.
 #[derive(Clone, Copy, Debug, PartialEq, Eq)]
 pub enum Unconverted {
     At(RefusedAt),

@@ -6,7 +6,7 @@ use lib.Dec.{leb}
 use Rattle.std.specs.List.{list_any, sum_by}
 use Rattle.std.proofs.lemmas.List.Sums.{sum_by-cons}
 use mathlib.Core.List.{List, [], ◌∷◌, ◌++◌, append_assoc, append-nil, map}
-use Prim.Native.Nat.{ℕ, suc, ◌+◌, ◌-◌, ◌^◌, ◌≤◌, ◌<◌}
+use Prim.Native.Nat.{ℕ, suc, ◌+◌, ◌-◌, ◌*◌, ◌^◌, ◌≤◌, ◌<◌}
 use native.Mathlib.Omega.{arith}
 use native.Mathlib.Numerals.{add-one}
 use lib.ListN.{length, get_or, take, drop, set, length-append, drop_of_length-le}
@@ -14,7 +14,7 @@ use lib.Seq.{drop-cons}
 use Rattle.lines.specs.Bytes.{line_feed, comma}
 use Rattle.lines.specs.Number.{decimal, most_digits64, some_from, some_long, some_nonzero}
 use Rattle.lines.specs.Line.{kind_of, first_field, numbers_of, lacked_of, after_commas, text_of, bytes_of}
-use Rattle.lines.specs.Inside.Parts.{Parted, numbers_parted, most_bytes, most_numbers, put_front}
+use Rattle.lines.specs.Inside.Parts.{Parted, numbers_parted, most_numbers, put_front}
 use Rattle.lines.specs.declared.line.EditionLine.{EditionLine}
 use Rattle.lines.proofs.Decimals.{decimal_short}
 use Rattle.lines.proofs.Puts.{Wrote, wrote_none, wrote_length, wrote_room, wrote_more, wrote_byte}
@@ -50,6 +50,10 @@ fields_sum (n ∷ ns) =
 
 pub width_small : (x : ℕ) → x < 2 ^ 64 → length (decimal x) ≤ most_digits64
 width_small x h = decimal_short x most_digits64 (omega arith) (omega arith)
+
+-- the most bytes of so many numbers, each after a comma
+abbrev most_bytes : ℕ → ℕ
+most_bytes count = (1 + most_digits64) * count
 
 -- numbers of 64 bits
 pub fields_within : (ns : List ℕ) → ((i : ℕ) → get_or ns i 0 < 2 ^ 64) → length (text_from ns 0) ≤ most_bytes (length ns)

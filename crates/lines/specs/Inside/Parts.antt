@@ -1,10 +1,10 @@
 -- What the functions inside reader and writer answer.
-use Rattle.std.specs.Prelude.{◌≡◌, ℕ, zero, suc, ◌+◌, ◌*◌, ◌/◌, ◌%◌, cond, List, [], ◌∷◌, ◌++◌, Option, Some, None, Result, Ok, Err, eqb, length, take, drop}
+use Rattle.std.specs.Prelude.{◌≡◌, ℕ, zero, suc, ◌+◌, ◌/◌, ◌%◌, cond, List, [], ◌∷◌, ◌++◌, Option, Some, None, Result, Ok, Err, eqb, length, take, drop}
 use Rattle.quantity.specs.Refusals.{first_of}
 use Rattle.quantity.specs.declared.refusal.Refusal.{Refusal}
 use Rattle.meter.specs.Card.{card_fields}
 use Rattle.lines.specs.Bytes.{comma, digit_zero}
-use Rattle.lines.specs.Number.{most_digits64, is_digit, most_digits, is_number, value_of}
+use Rattle.lines.specs.Number.{is_digit, most_digits, is_number, value_of}
 use Rattle.lines.specs.Line.{LineKind, kind_of, count_of, all_numbers_of, in_edition, content_rows, line_of}
 use Rattle.lines.specs.Reading.{shape_rows, numbers_in, size_of, answer_of}
 use Rattle.lines.specs.declared.line.EditionLine.{EditionLine}
@@ -65,10 +65,6 @@ last_digits (suc k) n = last_digits k (n / 10) ++ ((digit_zero + n % 10) ∷ [])
 -- a part of a buffer with a text put at its front
 abbrev pub put_front : List ℕ → List ℕ → List ℕ
 put_front part text = text ++ drop (length text) part
-
--- the most bytes of so many numbers, each after a comma
-abbrev pub most_bytes : ℕ → ℕ
-most_bytes count = (1 + most_digits64) * count
 
 -- no line has more numbers than the card's
 abbrev pub most_numbers : ℕ
