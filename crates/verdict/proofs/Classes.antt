@@ -7,13 +7,13 @@ use native.Mathlib.Nat.{mul-le-mul}
 use native.Mathlib.Omega.{arith}
 use lib.Dec.{lit≤}
 use borrow.Author.Tests.{le-leb}
-use Rattle.quantity.specs.Fractions.{plus, times, smaller, AtMost, Represents}
-use Rattle.verdict.specs.Limit.{hundredths, figures_of, calculator_limit, pair_limit, flow_sensor_sum, flow_sensor_limit, complete_limit}
+use Rattle.quantity.specs.Fractions.{whole, plus, times, smaller, AtMost, Represents}
+use Rattle.verdict.specs.Limit.{hundredths, figures_of, calculator_limit, pair_limit, flow_sensor_sum, flow_sensor_limit, complete_limit, limit_of}
 use Rattle.verdict.specs.Theorems.{formula, HasFormula, CompleteFormula}
 use Rattle.quantity.specs.declared.fraction.Fraction.{Fraction}
 use Rattle.verdict.specs.declared.class.Figures.{Figures}
 use Rattle.verdict.specs.declared.point.TestPoint.{TestPoint}
-use Rattle.verdict.proofs.ClassFigures.{of_class, capped_at_5}
+use Rattle.verdict.proofs.ClassFigures.{of_class, capped_at_5, complete_at_verification}
 use Rattle.verdict.proofs.Ranges.{ranges}
 
 uncapped : (f : Figures) (p : TestPoint) → AtMost (flow_sensor_sum f p) (hundredths f.cap) → flow_sensor_sum f p ≡ flow_sensor_limit f p
@@ -38,10 +38,14 @@ of_figures f p k e dh qh h =
     (of_sums f p k e dh qh)
 
 by_class : (class : ℕ) → 1 ≤ class → class ≤ 3 → HasFormula class (class + 1) (figures_of class).factor
-by_class class l m p a h =
+by_class class l m p a part same stage =
     let r = ranges p a in
     let c = of_class class l m in
-    of_figures (figures_of class) p (class + 1) (omega arith) (omega arith) (omega arith) ((capped_at_5 _ _ c.cap_of).1 h)
+    let k = class + 1 in
+    subst (λ (n : ℕ). AtMost (flow_sensor_sum (figures_of n) p) (whole 5) → Represents (formula k (figures_of class).factor p) (limit_of (figures_of n) p)) (sym same)
+    (λ h.
+    subst (Represents (formula k (figures_of class).factor p)) (sym (complete_at_verification (figures_of class) p part stage))
+    (of_figures (figures_of class) p k (omega arith) (omega arith) (omega arith) ((capped_at_5 _ _ c.cap_of).1 h)))
 
 pub complete_formula : CompleteFormula
 unfolding figures_of

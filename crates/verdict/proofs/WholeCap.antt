@@ -8,7 +8,7 @@ use Rattle.verdict.specs.Limit.{figures_of, calculator_limit, pair_limit, flow_s
 use Rattle.verdict.specs.Theorems.{AtMost10}
 use Rattle.quantity.specs.declared.fraction.Fraction.{Fraction}
 use Rattle.verdict.specs.declared.point.TestPoint.{TestPoint}
-use Rattle.verdict.proofs.ClassFigures.{of_class, capped_at_5}
+use Rattle.verdict.proofs.ClassFigures.{of_class, capped_at_5, complete_at_verification}
 use Rattle.verdict.proofs.Ranges.{ranges}
 
 of_calculator : (p : TestPoint) → p.delta_min * 100 ≤ p.difference.0 → AtMost (calculator_limit p) (3 over 2)
@@ -29,8 +29,9 @@ unfolding plus
 
 pub at_most_10 : AtMost10
 unfolding complete_limit
-at_most_10 p a =
+at_most_10 p a part stage =
     let r = ranges p a in
     let d = r.difference.difference.0 in
     let flow = of_flow_sensor p.class r.class.0 r.class.1 p in
-    10-in-all _ (sums _ _ _ _ (sums _ _ _ _ (of_calculator p d) (of_pair p d)) flow)
+    rw (complete_at_verification (figures_of p.class) p part stage)
+    (10-in-all _ (sums _ _ _ _ (sums _ _ _ _ (of_calculator p d) (of_pair p d)) flow))

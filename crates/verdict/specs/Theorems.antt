@@ -6,7 +6,7 @@ use Rattle.quantity.specs.Refusals.{NoneApplies}
 use Rattle.quantity.specs.declared.fraction.Fraction.{Fraction}
 use Rattle.quantity.specs.declared.refusal.Refusal.{Refusal}
 use Rattle.verdict.specs.Certificate.{error_limit_of, comparison_of}
-use Rattle.verdict.specs.Limit.{hundredths, figures_of, difference_ratio, flow_ratio, flow_sensor_sum, complete_limit, limit_of}
+use Rattle.verdict.specs.Limit.{hundredths, figures_of, difference_ratio, flow_ratio, flow_sensor_sum, limit_of}
 use Rattle.verdict.specs.Rows.{largest_value, comparison_rows, verdict_rows, Admitted}
 use Rattle.verdict.specs.Verdict.{absolute_error, verdict_of}
 use Rattle.verdict.specs.declared.point.TestPoint.{TestPoint}
@@ -69,11 +69,11 @@ Mirrored =
 abbrev pub formula : ℕ → ℕ → TestPoint → Fraction
 formula k n p = plus (plus (whole k) (times (whole 4) (difference_ratio p))) (times (hundredths n) (flow_ratio p))
 
--- it is a class's limit while the flow sensor's part is at most 5
+-- it is the limit of a class's complete instrument at verification while the flow sensor's part is at most 5
 abbrev pub HasFormula : ℕ → ℕ → ℕ → Type 0
 HasFormula class k n =
-    (p : TestPoint) → Admitted p → AtMost (flow_sensor_sum (figures_of class) p) (whole 5) →
-    Represents (formula k n p) (complete_limit (figures_of class) p)
+    (p : TestPoint) → Admitted p → p.part ≡ 4 → p.class ≡ class → p.stage ≡ 1 →
+    AtMost (flow_sensor_sum (figures_of p.class) p) (whole 5) → Represents (formula k n p) (limit_of (figures_of p.class) p)
 
 -- The limit of a complete instrument at verification is 2 + 4×Δmin/Δ + 0.01×qp/q in class 1, 3 + 4×Δmin/Δ + 0.02×qp/q in class 2 and
 -- 4 + 4×Δmin/Δ + 0.05×qp/q in class 3, as long as the flow sensor's part is at most 5.
@@ -82,7 +82,7 @@ CompleteFormula = HasFormula 1 2 1 × HasFormula 2 3 2 × HasFormula 3 4 5
 
 -- At verification no complete instrument's limit passes 10 percent, so that a cap of 10 on the sum decides nothing there.
 abbrev pub AtMost10 : Type 0
-AtMost10 = (p : TestPoint) → Admitted p → AtMost (complete_limit (figures_of p.class) p) (whole 10)
+AtMost10 = (p : TestPoint) → Admitted p → p.part ≡ 4 → p.stage ≡ 1 → AtMost (limit_of (figures_of p.class) p) (whole 10)
 
 -- Document 01, "Edges to try": the verdict for a part, D, qp, q and I, the other inputs being stage 1, class 2, Δmin 3 and X 1000000
 abbrev pub verdict_at : ℕ → ℕ → ℕ → ℕ → ℕ → Result Verdict Refusal
