@@ -9,7 +9,7 @@ use Rattle.quantity.specs.declared.refusal.Refusal.{Refusal}
 use Rattle.meter.specs.Edition.{is_other_edition, keeps_seconds, counts_cold}
 use Rattle.meter.specs.Card.{card_rows}
 use Rattle.meter.specs.State.{fresh_of, zeros, largest_register, largest_volume, largest_count, most_seconds}
-use Rattle.meter.specs.Sample.{supply_of, return_of, ts, tr, sample_heat}
+use Rattle.meter.specs.Sample.{volume_of, supply_of, return_of, ts, tr, sample_heat}
 use Rattle.meter.specs.Register.{register_of, own_register}
 use Rattle.meter.specs.Step.{kept_of, step_of}
 use Rattle.meter.specs.Profile.{zero_cells, profile_rows, cell_at, in_quarter_of}
@@ -108,12 +108,26 @@ abbrev pub HeatOnly : Type 0
 HeatOnly =
     (c : Card) (e : ℕ) (m : Meter) → fresh_of c e ≡ Ok m → counts_cold e ≡ false → (ks : List Mark) (z : Meter) → Calls m ks z → HeatAlone c ks
 
+-- what the accepted samples of a list add up to, each giving so much
+abbrev pub total_of : (Sample → ℕ) → List Mark → ℕ
+total_of f [] = 0
+total_of f (k ∷ ks) = cond k.accepted (f k.sample) 0 + total_of f ks
+
 -- the seconds of the accepted samples above q_s
 abbrev pub kept_in : Card → List Mark → ℕ
-kept_in c [] = 0
-kept_in c (k ∷ ks) = cond k.accepted (kept_of c k.sample) 0 + kept_in c ks
+kept_in c ks = total_of (kept_of c) ks
 
--- Those are the kept seconds.
+-- The accepted count is that of the accepted samples,
+abbrev pub AcceptedCount : Type 0
+AcceptedCount =
+    (c : Card) (e : ℕ) (m : Meter) → fresh_of c e ≡ Ok m → (ks : List Mark) (z : Meter) → Calls m ks z → z.accepted ≡ total_of (λ s. 1) ks
+
+-- the volume is theirs,
+abbrev pub VolumeTogether : Type 0
+VolumeTogether =
+    (c : Card) (e : ℕ) (m : Meter) → fresh_of c e ≡ Ok m → (ks : List Mark) (z : Meter) → Calls m ks z → z.volume ≡ total_of (volume_of c) ks
+
+-- and the kept seconds are those of the ones above q_s.
 abbrev pub KeptSeconds : Type 0
 KeptSeconds =
     (c : Card) (e : ℕ) (m : Meter) → fresh_of c e ≡ Ok m → (ks : List Mark) (z : Meter) → Calls m ks z → z.kept_seconds ≡ kept_in c ks

@@ -1,5 +1,5 @@
 // What is proved of whole lists of calls, and of two editions together, whatever the card, the meter and the samples.
-ghost use Rattle.meter.specs.Theorems.{RegisterBounds, OwnExactly, CallsExist, Given, OnlyMarks, OnlyLast, HeatOnly, KeptSeconds};
+ghost use Rattle.meter.specs.Theorems.{RegisterBounds, OwnExactly, CallsExist, Given, OnlyMarks, OnlyLast, HeatOnly, AcceptedCount, VolumeTogether, KeptSeconds};
 ghost use Rattle.meter.specs.Theorems.{StaysWithinLimits, LackedStaysZero, NoOtherRefusal, Counted, HeatAsInEdition2};
 ghost use Rattle.meter.specs.Theorems.{CellsTogether, CellsWithinLimit, IndexAlone, DayExists, OnlyDay, DayStands};
 
@@ -19,9 +19,11 @@ pub fn heat_only()
     ensures { HeatOnly }
 {}
 
-/// The kept seconds are those of the accepted samples above q_s.
-pub fn kept_seconds()
-    ensures { KeptSeconds }
+/// The accepted count, the volume and the kept seconds are those of the accepted samples, the seconds of the ones above q_s.
+pub fn totals()
+    ensures accepted_count { AcceptedCount }
+    ensures volume_together { VolumeTogether }
+    ensures kept_seconds { KeptSeconds }
 {}
 
 /// A meter that calls lead to from a fresh one keeps all limits, lacks what its edition lacks, is refused by its full counts alone, and has counted
