@@ -157,7 +157,7 @@ abbrev pub LackedStaysZero : Type 0
 LackedStaysZero =
     (c : Card) (e : ℕ) (m : Meter) → fresh_of c e ≡ Ok m → (ks : List Mark) (z : Meter) → Calls m ks z → LackedZero e z
 
--- So after any calls the step accepts a sample, or refuses it with 21 or with a number from 30 on, which only the sample's rows have.
+-- So after any calls the step accepts a sample, or refuses it with 21 or with a number from 30 on, which of its rows only the sample's have.
 abbrev pub NoOtherRefusal : Type 0
 NoOtherRefusal =
     (c : Card) (e : ℕ) (m : Meter) → fresh_of c e ≡ Ok m → (ks : List Mark) (z : Meter) → Calls m ks z → (s : Sample) →

@@ -7,28 +7,36 @@ ghost use Rattle.meter.specs.Card.{fields_of, card_rows};
 use platinum::Sensor;
 use quantity::{LARGEST_KELVINS, LAST_DEGREE, Refusal, first_refusal, is_outside};
 
-// How many fields a card has.
+/// How many fields a card has.
 pub const CARD_FIELDS: usize = 12;
 
-// What is fixed about a meter when it is built in, in document 01's order. Any content can stand here, in the place and the
-// sensor too: a rule of the project, by which what crosses a crate's border is total, and rows 11 and 12 are what refuses other numbers.
+/// What is fixed about a meter when it is built in, in the order of line C. Any content can stand here, in the place and the sensor too: a rule of
+/// the project, by which what crosses a crate's border is total. `refusal` tells what is wrong with a card.
 #[derive(Clone, Copy, Debug, PartialEq, Eq)]
 pub struct Card {
+    /// the meter's serial number
     pub serial: u64,
+    /// where volume is measured: 1 in the supply, 2 in the return
     pub place: u64,
+    /// the platinum sensors' resistance at 0 °C, in ohm: 100, 500 or 1000 (IEC 60751)
     pub sensor: u64,
+    /// mL for each pulse of the flow sensor
     pub ml_per_pulse: u64,
+    /// the temperature range's two limits, in whole °C (OIML R 75)
     pub theta_min: u64,
     pub theta_max: u64,
+    /// the temperature difference's two limits, in whole K
     pub delta_min: u64,
     pub delta_max: u64,
+    /// the lowest, the permanent and the highest flow-rate, in mL/h
     pub qi: u64,
     pub qp: u64,
     pub qs: u64,
+    /// the upper limit of the thermal power, in W
     pub ps: u64,
 }
 
-// The card of twelve numbers: the one place of this crate that builds a card.
+/// The card of twelve numbers: the one place of this crate that builds a card.
 impl From<[u64; CARD_FIELDS]> for Card {
     ghost from_gives = { λ f c. fields_of c ≡ f };
 
@@ -64,7 +72,7 @@ impl From<[u64; CARD_FIELDS]> for Card {
     }
 }
 
-// And a card's twelve numbers.
+/// And a card's twelve numbers.
 impl From<Card> for [u64; CARD_FIELDS] {
     ghost from_gives = { λ c f. f ≡ fields_of c };
 
@@ -88,7 +96,7 @@ impl From<Card> for [u64; CARD_FIELDS] {
 }
 
 impl Card {
-    /// The card's rows, 10 to 18.
+    /// The first of 10 to 18 whose condition holds of the card, in that order, or nothing for an accepted one.
     #[tactic(auto, unfolding(crate::specs::Card::card_rows))]
     pub fn refusal(self) -> Result<(), Refusal>
         ensures answer { result ≡ first_of (card_rows self) }

@@ -9,7 +9,7 @@ use crate::edition::is_other_edition;
 use crate::state::Meter;
 use quantity::{Refusal, first_refusal};
 
-/// The fresh meter of an accepted card in an edition: zeros.
+/// The fresh meter of an accepted card in an edition, with zeros; refused by the card's first row, 10 to 18, and then by 20 for another edition.
 pub fn fresh(card: Card, edition: u64) -> Result<Meter, Refusal>
     ensures answer { result ≡ fresh_of card edition }
     ensures number { refusal_number result ≡ first_number (fresh_rows card edition) }

@@ -13,25 +13,26 @@ use crate::state::{LARGEST_REGISTER, Meter};
 use crate::stepping::{Stepped, step};
 use quantity::{Refusal, first_refusal};
 
-// How many quarters of an hour a day has.
+/// How many quarters of an hour a day has.
 pub const QUARTERS: usize = 96;
 
-// The step's answer, and the cells after it.
+/// The step's answer, or 73 with the meter unchanged, and the cells after it, in mJ.
 #[derive(Clone, Copy, Debug, PartialEq, Eq)]
 pub struct Profiled {
     pub stepped: Stepped,
     pub cells: [u64; QUARTERS],
 }
 
-// The cells at the start of a day.
+/// The cells at the start of a day: 96 zeros, in mJ.
 pub fn empty_profile() -> [u64; QUARTERS]
     ensures { result ≡ zero_cells }
 {
     [0; QUARTERS]
 }
 
-/// Takes one sample with the index of its quarter. Refused by 73, meter and cells are unchanged. Otherwise the step answers, and an accepted
-/// heat sample adds its floored heat to the cell of its index.
+/// Takes one sample with the index of its quarter, 0 to 95. Refused by 73, for another index or a cell above the register's limit, meter and cells
+/// are unchanged. Otherwise the step answers, and an accepted heat sample adds its floored heat in mJ to the cell of its index. A cold sample and a
+/// refused one add to no cell.
 pub fn step_in_quarter(m: Meter, cells: [u64; QUARTERS], s: Sample, index: u64) -> Profiled
     ensures answer { result ≡ in_quarter_of m cells s index }
     ensures number { refusal_number result.stepped.outcome ≡ first_number (profile_rows cells index ++ (card_and_state_rows m ++ sample_rows m s)) }

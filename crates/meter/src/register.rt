@@ -5,7 +5,7 @@ ghost use Rattle.meter.specs.Register.{register_of, register_by};
 use crate::state::Meter;
 use quantity::Temperature;
 
-// Which register is meant.
+/// Which register is meant: that of heat or that of cold, each in mJ.
 #[derive(Clone, Copy, Debug, PartialEq, Eq)]
 pub enum Register {
     Heat,

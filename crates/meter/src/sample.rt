@@ -8,19 +8,22 @@ use crate::card::Card;
 use crate::state::MOST_SECONDS;
 use quantity::{Refusal, first_refusal, is_outside};
 
-// How many numbers a sample has.
+/// How many numbers a sample has.
 pub const SAMPLE_FIELDS: usize = 4;
 
-// What the flow sensor and the temperature sensor pair gave in some seconds. Any content can stand here.
+/// What the flow sensor and the temperature sensor pair gave in some seconds. Any content can stand here: the step refuses what it cannot count.
 #[derive(Clone, Copy, Debug, PartialEq, Eq)]
 pub struct Sample {
+    /// the flow sensor's pulses
     pub pulses: u64,
+    /// how long the sample took
     pub seconds: u64,
+    /// the two sensors' resistances, in 0.0001 ohm
     pub supply_reading: u64,
     pub return_reading: u64,
 }
 
-// The sample of four numbers.
+/// The sample of four numbers.
 impl From<[u64; SAMPLE_FIELDS]> for Sample {
     ghost from_gives = { λ f s. fields_of s ≡ f };
 
@@ -35,7 +38,7 @@ impl From<[u64; SAMPLE_FIELDS]> for Sample {
     }
 }
 
-// And a sample's four numbers.
+/// And a sample's four numbers.
 impl From<Sample> for [u64; SAMPLE_FIELDS] {
     ghost from_gives = { λ s f. f ≡ fields_of s };
 

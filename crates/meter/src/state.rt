@@ -18,9 +18,9 @@ pub(crate) const LARGEST_COUNT: u64 = 1000000000000;
 // The most seconds of a sample (row 30), and so the most that are kept for each accepted one (row 20).
 pub(crate) const MOST_SECONDS: u64 = 3600;
 
-// A meter: its card, its edition, the heat register in mJ, the volume in mL, how many samples were accepted and refused, the seconds of
-// the accepted ones that flowed above q_s, and the cold register in mJ. Any content can stand here; the step refuses a card or a state that
-// a row from 10 to 21 meets.
+/// A meter: its card, its edition, the heat register in mJ, the volume in mL, how many samples were accepted and refused, the seconds of
+/// the accepted ones that flowed above q_s, and the cold register in mJ. Any content can stand here; the step refuses a card or a state that
+/// a row from 10 to 21 meets.
 #[derive(Clone, Copy, Debug, PartialEq, Eq)]
 pub struct Meter {
     pub card: Card,

@@ -13,16 +13,16 @@ use crate::state::Meter;
 use crate::usable::Usable;
 use quantity::Refusal;
 
-// The meter after a step, and no refusal or the refusal.
+/// The meter after a step, and no refusal or the refusal.
 #[derive(Clone, Copy, Debug, PartialEq, Eq)]
 pub struct Stepped {
     pub meter: Meter,
     pub outcome: Result<(), Refusal>,
 }
 
-/// Takes one sample. Refused by a row of card or state, the meter is unchanged; refused by a row of the sample, its refused count is one
-/// more; accepted, the floored heat goes to the register whose own the sample is, the volume to the volume, the seconds of one above q_s to
-/// the kept ones, and the accepted count is one more.
+/// Takes one sample. Refused by a row of card or state, 10 to 21, the meter is unchanged; refused by a row of the sample, 30 to 41, 70 or 71, its
+/// refused count is one more; accepted, the floored heat (OIML R 75-1, over the water of IAPWS-IF97) in mJ goes to the register whose own the sample
+/// is, the volume in mL to the volume, the seconds of one above q_s to the kept ones, and the accepted count is one more.
 pub fn step(m: Meter, s: Sample) -> Stepped
     ensures answer { result ≡ step_of m s }
     ensures number { refusal_number result.outcome ≡ first_number (card_and_state_rows m ++ sample_rows m s) }
