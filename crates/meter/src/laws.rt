@@ -1,5 +1,6 @@
 // What is proved of whole lists of calls, and of two editions together, whatever the card, the meter and the samples.
-ghost use Rattle.meter.specs.Theorems.{RegisterBounds, OwnExactly, CallsExist, Given, OnlyMarks, OnlyLast, HeatOnly, AcceptedCount, VolumeTogether, KeptSeconds};
+ghost use Rattle.meter.specs.Theorems.{RegisterBounds, OwnExactly, CallsExist, Given, OnlyMarks, OnlyLast, HeatOnly};
+ghost use Rattle.meter.specs.Theorems.{AcceptedCount, VolumeTogether, KeptSeconds};
 ghost use Rattle.meter.specs.Theorems.{StaysWithinLimits, LackedStaysZero, NoOtherRefusal, Counted, HeatAsInEdition2};
 ghost use Rattle.meter.specs.Theorems.{CellsTogether, CellsWithinLimit, IndexAlone, DayExists, OnlyDay, DayStands};
 
