@@ -1,8 +1,7 @@
 // What is proved of a file's readings.
-ghost use Rattle.archive.specs.Theorems.{OneReading, WrittenAgain};
+ghost use Rattle.archive.specs.Theorems.{OneReading};
 
-/// Two readings of one file are the same; and an accepted file, written again from its reading, is the same bytes.
+/// Two readings of one file are the same: its edition, its card, its samples and the meter that they lead to.
 pub fn one_reading()
-    ensures one_reading { OneReading }
-    ensures written_again { WrittenAgain }
+    ensures { OneReading }
 {}
