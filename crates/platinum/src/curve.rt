@@ -1,6 +1,7 @@
 // The platinum curve W(t), and the value on which a temperature is searched for. It keeps the share that is searched for to itself, works out the
-// curve by a try alone, notes each try, and can be neither made nor copied elsewhere: so a search finds the temperature by the tries that its notes
-// tell, and by nothing else.
+// curve by a try alone, notes each try, and can be neither made nor copied elsewhere: so the search, which stands elsewhere, learns where the share
+// lies on the curve by the tries that its notes tell, and by nothing else. That `found` makes one such value and hands out its notes, and that the
+// polynomial is written in `try_at` alone, no contract says: these two are to be seen here.
 ghost use Rattle.std.specs.Prelude.{◌≡◌, ◌+◌, ◌≤◌, ◌<◌, leb};
 ghost use Rattle.quantity.specs.Largest.{largest};
 ghost use Rattle.quantity.specs.Units.{last_hundredth};
