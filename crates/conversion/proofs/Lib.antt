@@ -6,6 +6,7 @@ pub mod Conversions
 pub mod Back
 pub mod Staying
 mod Promises
+mod Refusing
 mod Agreement
 mod Passing
 mod Buffers

@@ -13,7 +13,7 @@ const MOST_DIGITS_64: usize = 20;
 // No output line is longer: a letter, five numbers, each after a comma, and the line feed.
 const LONGEST: usize = 1 + MOST_REPORTED * (1 + MOST_DIGITS_64) + 1;
 
-/// What an audit found: the state that the file ends with, or the first refusal and its line.
+/// What an audit found: the state that the file ends with, heat in mJ and volume in mL, or the first refusal and its line, counted from 1.
 // No Result: the line is printed of any numbers, and of a `Refusal` alone the public operation would print fewer lines than it did.
 #[derive(Clone, Copy)]
 pub enum Report {
