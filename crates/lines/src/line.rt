@@ -2,7 +2,8 @@
 use meter::{Card, Meter, Sample};
 use quantity::Refusal;
 
-/// What line E carries, in its order: a meter's end state, with heat and cold in mJ, the volume in mL and the kept seconds. Every edition's fields stand here; one that an edition lacks is zero.
+/// What line E carries, in its order: a meter's end state, with heat and cold in mJ, the volume in mL and the kept seconds. Every edition's fields stand
+/// here; one that an edition lacks is zero.
 #[derive(Clone, Copy, Debug, PartialEq, Eq)]
 pub struct Totals {
     pub accepted: u64,

@@ -20,8 +20,8 @@ pub struct ReadLine<'a> {
     pub rest: &'a [u8],
 }
 
-/// The reader of one line, told what may come. Refused, in this order: 60 where the opening or the edition is none, 61 by the line's shape, 62 by a number, and 10
-/// to 18 by a card's own rows.
+/// The reader of one line, told what may come. Refused, in this order: 60 where the opening or the edition is none, 61 by the line's shape, 62 by a
+/// number, and 10 to 18 by a card's own rows.
 // `inline`: a caller that names what may come is compiled without the other cases, which saves the audit 37 instructions at a sample's line.
 #[inline]
 #[tactic(auto, unfolding(crate::specs::Reading::rest_of))]

@@ -15,8 +15,8 @@ use crate::opening::put_opening;
 use meter::is_other_edition;
 use quantity::{Refusal, first_refusal};
 
-/// Puts a line in its edition into buf from the place at on, and answers the next place. Refused, in this order: 67 for a place beyond the buffer, 60 for an edition
-/// that is none, 10 to 18 by a card's own rows, 62 by a number that the line cannot have, and 66 where it has no room; buf is then as it was.
+/// Puts a line in its edition into buf from the place at on, and answers the next place. Refused, in this order: 67 for a place beyond the buffer, 60 for
+/// an edition that is none, 10 to 18 by a card's own rows, 62 by a number that the line cannot have, and 66 where it has no room; buf is then as it was.
 #[tactic(auto, using(crate::proofs::WriterRows::unrefused), unfolding(crate::specs::Writing::written_of, crate::specs::Writing::buffer_after))]
 pub fn write_line(buf: &mut [u8], at: usize, what: EditionLine) -> Result<usize, Refusal>
     ensures answer { result ≡ written_of (length buf.old) at what }

@@ -5,6 +5,7 @@ use mathlib.Core.Logic.{◌↔◌}
 use mathlib.Core.List.{List, [], ◌∷◌}
 use mathlib.Core.Bool.{Bool, true, false, ◌&&◌}
 use Prim.Native.Nat.{ℕ}
+use Rattle.quantity.proofs.Conditions.{both}
 use Rattle.quantity.specs.declared.fraction.Fraction.{Fraction}
 use Rattle.meter.specs.Register.{own_register, is_same}
 use Rattle.meter.specs.Sum.{Mark, is_own, nothing, sum_from, sum_of, allowance_from, allowance_of}
@@ -24,13 +25,16 @@ same_exactly r q = (are r q, λ e. subst (λ (x : Register). is_same r x ≡ tru
     are Heat Cold e = absurd cc
     are Cold Heat e = absurd cc
 
--- every accepted sample is exactly one register's own
 pub own_exactly : OwnExactly
-own_exactly r c k a = rw a (same_exactly r (own_register c k.sample))
+own_exactly r c k =
+    let is_that = same_exactly r (own_register c k.sample) in (
+      λ e. let h = both k.accepted (is_same r (own_register c k.sample)) e in (h.0, is_that.0 h.1),
+      λ h. rw h.0 (is_that.1 h.1),
+    )
 
 -- what is one register's own is not the other's, and a refused one is no register's
 not_own : (r other : Register) (c : Card) (k : Mark) → is_same other r ≡ false → (k.accepted ≡ true → is_own r c k ≡ true) → is_own other c k ≡ false
-not_own r other c k apart h = by k.accepted (λ a. (own_exactly r c k a).0 (h a))
+not_own r other c k apart h = by k.accepted (λ a. ((own_exactly r c k).0 (h a)).1)
   where
     by : (b : Bool) → (b ≡ true → r ≡ own_register c k.sample) → (b && is_same other (own_register c k.sample)) ≡ false
     by true g = subst (λ (q : Register). is_same other q ≡ false) (g refl) apart

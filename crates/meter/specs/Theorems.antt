@@ -74,9 +74,10 @@ RegisterBounds =
     (c : Card) (e : ℕ) (m : Meter) → fresh_of c e ≡ Ok m → (ks : List Mark) (z : Meter) → Calls m ks z → (r : Register) →
     WithinBounds (register_of r z) (allowance_of r c ks) (sum_of r c ks)
 
--- Every accepted sample is exactly one register's own.
+-- A sample is a register's own exactly where it was accepted and its temperatures are that register's: every accepted sample is exactly one register's, and
+-- a refused one none's.
 abbrev pub OwnExactly : Type 0
-OwnExactly = (r : Register) (c : Card) (k : Mark) → k.accepted ≡ true → (is_own r c k ≡ true) ↔ (r ≡ own_register c k.sample)
+OwnExactly = (r : Register) (c : Card) (k : Mark) → (is_own r c k ≡ true) ↔ ((k.accepted ≡ true) × (r ≡ own_register c k.sample))
 
 -- The theorem speaks of every list of askings: calls exist that ask just these, they leave marks of these samples,
 abbrev pub CallsExist : Type 0
