@@ -52,26 +52,26 @@ unfolding output_of put_at text_of
 first_byte b ns = refl
 
 -- R's byte begins no line of a refusal
-not_r : (n line : ℕ) → get_or (line_of (R.Refusal n line)).bytes 0 0 ≡ letter_r → ⊥
+not_r : (n line : ℕ) → get_or (line_of (R.Refused n line)).bytes 0 0 ≡ letter_r → ⊥
 unfolding report_text
 not_r n line e = let x : letter_x ≡ letter_r = sym (first_byte letter_x (n ∷ line ∷ [])) ∙ e in omega (arith, x)
 
 end_byte : (m : Meter) → get_or (line_of (end_state m)).bytes 0 0 ≡ letter_r
 unfolding report_text
-end_byte m = first_byte letter_r (m.card.serial ∷ m.accepted ∷ m.refused ∷ m.register ∷ m.volume ∷ [])
+end_byte m = first_byte letter_r (m.card.serial ∷ m.accepted ∷ m.refused ∷ m.heat_register ∷ m.volume ∷ [])
 
 x_plain : Plain (letter_x ∷ [])
 unfolding lacks
 x_plain = record { no_comma = refl; no_end = refl }
 
 -- the numbers of a refusal's line are the refusal's
-refusal_numbers : (n line : ℕ) → numbers_in (report_text (R.Refusal n line)) ≡ n ∷ line ∷ []
+refusal_numbers : (n line : ℕ) → numbers_in (report_text (R.Refused n line)) ≡ n ∷ line ∷ []
 unfolding report_text text_of
 refusal_numbers n line = numbers_back (letter_x ∷ []) (n ∷ line ∷ []) [] x_plain
 
-same_number : (n line k place : ℕ) → line_of (R.Refusal n line) ≡ line_of (R.Refusal k place) → n ≡ k
+same_number : (n line k place : ℕ) → line_of (R.Refused n line) ≡ line_of (R.Refused k place) → n ≡ k
 same_number n line k place e =
-    let texts = same_text (report_text (R.Refusal n line)) (report_text (R.Refusal k place)) e in
+    let texts = same_text (report_text (R.Refused n line)) (report_text (R.Refused k place)) e in
     let numbers = sym (refusal_numbers n line) ∙ ap numbers_in texts ∙ refusal_numbers k place in
     ap (λ (ns : List ℕ). get_or ns 0 0) numbers
 

@@ -19,15 +19,15 @@ audit_limit = 65536
 
 -- the report of an accepted file by the meter that it ends with: the same fields in every edition
 abbrev pub end_state : Meter → Report
-end_state m = R.EndState m.card.serial m.accepted m.refused m.register m.volume
+end_state m = R.EndState m.card.serial m.accepted m.refused m.heat_register m.volume
 
 unfoldable pub of_audited : Result Meter RefusedAt → Report
 of_audited (Ok m) = end_state m
-of_audited (Err r) = R.Refusal (number_of r.refusal) r.line
+of_audited (Err r) = R.Refused (number_of r.refusal) r.line
 
 -- that of an input over the limit
 abbrev pub over_limit : Report
-over_limit = R.Refusal (number_of InputSize) 0
+over_limit = R.Refused (number_of InputSize) 0
 
 unfoldable pub report_of : ℕ → List ℕ → Report
 report_of limit bs = cond (ltb limit (length bs)) over_limit (of_audited (audit_of bs))

@@ -27,7 +27,7 @@ fn found(input: &[u8], limit: usize) -> Report
     ensures { result ≡ report_of limit input.now }
 {
     if limit < input.len() {
-        return Report::Refusal {
+        return Report::Refused {
             number: Refusal::InputSize.number(),
             line: 0,
         };
@@ -45,10 +45,10 @@ fn of_audited(answer: Result<Meter, RefusedAt>) -> Report
             serial: m.card.serial,
             accepted: m.accepted,
             refused: m.refused,
-            register: m.register,
+            heat_register: m.heat_register,
             volume: m.volume,
         },
-        Err(RefusedAt { refusal, line }) => Report::Refusal {
+        Err(RefusedAt { refusal, line }) => Report::Refused {
             number: refusal.number(),
             line,
         },

@@ -1,12 +1,11 @@
 // What a converter answers where it gives no new file (document 02, request 6).
 use lines::RefusedAt;
-use quantity::Refusal;
 
 /// A refusal with its line, counted from 1; or the one that comes without a line: 66, of the output buffer.
 #[derive(Clone, Copy, Debug, PartialEq, Eq)]
 pub enum Unconverted {
     At(RefusedAt),
-    Refused(Refusal),
+    NoRoom,
 }
 
 impl From<RefusedAt> for Unconverted {

@@ -13,7 +13,7 @@ use Rattle.quantity.proofs.Rows.{number_of_rows}
 use Rattle.meter.specs.Edition.{is_other_edition}
 use Rattle.meter.specs.Card.{card_rows}
 use Rattle.lines.specs.Line.{sample, totals, first_field, count_of, card_of, line_of, content_rows}
-use Rattle.lines.specs.Reading.{is_same, size_of, first_in, others_in, numbers_in, are_numbers, shape_rows, edition_in, due_kind, line_in, line_rows, later_rows, read_rows, answer_of, read_of}
+use Rattle.lines.specs.Reading.{same_bytes, size_of, first_in, others_in, numbers_in, are_numbers, shape_rows, edition_in, due_kind, line_in, line_rows, later_rows, read_rows, answer_of, read_of}
 use Rattle.lines.specs.RoundTrip.{is_no_line, is_misshapen_due, Cause, other_edition, misshapen, no_number, card_row}
 use Rattle.lines.specs.Theorems.{RefusedExactly}
 use Rattle.lines.specs.declared.line.EditionLine.{EditionLine}
@@ -72,11 +72,11 @@ module _ (bs : List ℕ) where
   later (M.SampleOrEnd e) = Ok tt
 
   -- where S and E may come, bytes whose first field is E begin with no line S, and the others with no line E
-  end_no_sample : (e : ℕ) → is_same (first_in bs) (first_field totals) ≡ true → is_no_line e sample bs ≡ true
-  unfolding is_no_line first_field is_same
+  end_no_sample : (e : ℕ) → same_bytes (first_in bs) (first_field totals) ≡ true → is_no_line e sample bs ≡ true
+  unfolding is_no_line first_field same_bytes
   end_no_sample e h = misshapen_first (first_field sample) (count_of e sample) bs (rw (same_true (first_in bs) (first_field totals) h) refl)
 
-  sample_no_end : (e : ℕ) → is_same (first_in bs) (first_field totals) ≡ false → is_no_line e totals bs ≡ true
+  sample_no_end : (e : ℕ) → same_bytes (first_in bs) (first_field totals) ≡ false → is_no_line e totals bs ≡ true
   unfolding is_no_line
   sample_no_end e h = misshapen_first (first_field totals) (count_of e totals) bs h
 
@@ -84,9 +84,9 @@ module _ (bs : List ℕ) where
   unfolding read_rows later_rows line_rows first_of shape_rows rows other is_no_line numbers_due later edition_in line_of due_kind content_rows
   due_rows M.Opening = refl
   due_rows (M.Card e) = refl
-  due_rows (M.SampleOrEnd e) = go (is_same (first_in bs) (first_field totals)) refl
+  due_rows (M.SampleOrEnd e) = go (same_bytes (first_in bs) (first_field totals)) refl
     where
-      go : (t : Bool) → is_same (first_in bs) (first_field totals) ≡ t → cond (is_other_edition e) (Err R.Edition) (first_of (line_rows e (cond t totals sample) bs))
+      go : (t : Bool) → same_bytes (first_in bs) (first_field totals) ≡ t → cond (is_other_edition e) (Err R.Edition) (first_of (line_rows e (cond t totals sample) bs))
           ≡ rows (is_other_edition e) (is_no_line e sample bs && is_no_line e totals bs) (are_numbers (others_in bs)) (Ok tt)
       go true h = rw (end_no_sample e h) refl
       go false h = rw (sample_no_end e h, and-true (is_no_line e sample bs)) refl

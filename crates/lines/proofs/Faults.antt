@@ -19,7 +19,7 @@ use Rattle.quantity.specs.declared.refusal.Refusal.{Refusal}
 use Rattle.quantity.specs.declared.refusal.Refusal.TheVariants as R
 use Rattle.lines.specs.Bytes.{line_feed, comma}
 use Rattle.lines.specs.Number.{some_long}
-use Rattle.lines.specs.Reading.{is_same, until_end, is_ended, size_of, with_first, split, fields_in, first_in, others_in, are_numbers, numbers_in, is_misshapen, shape_rows}
+use Rattle.lines.specs.Reading.{same_bytes, until_end, is_ended, size_of, with_first, split, fields_in, first_in, others_in, are_numbers, numbers_in, is_misshapen, shape_rows}
 use Rattle.lines.proofs.Splitting.{Parted, parted, split_parted, length_parted}
 use Rattle.lines.proofs.Shape.{line_bytes, shape_forth}
 
@@ -107,23 +107,23 @@ unfolding with_first
 first_of_lem b l (parted f fs) = refl
 
 -- it is nothing where the bytes, or the line, or the field ends at once
-pub first_none : (bs : List ℕ) → length bs ≡ 0 → is_same (first_in bs) [] ≡ true
-unfolding fields_in until_end split is_same
+pub first_none : (bs : List ℕ) → length bs ≡ 0 → same_bytes (first_in bs) [] ≡ true
+unfolding fields_in until_end split same_bytes
 first_none [] h = refl
 first_none (b ∷ bs) h = absurd (omega arith)
 
-pub first_feed : (bs : List ℕ) → get_or bs 0 0 ≡ line_feed → is_same (first_in bs) [] ≡ true
-unfolding fields_in until_end split is_same
+pub first_feed : (bs : List ℕ) → get_or bs 0 0 ≡ line_feed → same_bytes (first_in bs) [] ≡ true
+unfolding fields_in until_end split same_bytes
 first_feed [] h = refl
 first_feed (b ∷ bs) h = simp (eq-eqb b line_feed h)
 
-pub first_comma : (bs : List ℕ) → get_or bs 0 0 ≡ comma → is_same (first_in bs) [] ≡ true
-unfolding fields_in until_end split is_same
+pub first_comma : (bs : List ℕ) → get_or bs 0 0 ≡ comma → same_bytes (first_in bs) [] ≡ true
+unfolding fields_in until_end split same_bytes
 first_comma [] h = refl
 first_comma (b ∷ bs) h = simp (ne_eqb b line_feed (λ g. omega arith), eq-eqb b comma h)
 
-pub first_more : (bs : List ℕ) → 0 < length bs → (get_or bs 0 0 ≡ comma → ⊥) → (get_or bs 0 0 ≡ line_feed → ⊥) → is_same (first_in bs) [] ≡ false
-unfolding fields_in until_end split is_same
+pub first_more : (bs : List ℕ) → 0 < length bs → (get_or bs 0 0 ≡ comma → ⊥) → (get_or bs 0 0 ≡ line_feed → ⊥) → same_bytes (first_in bs) [] ≡ false
+unfolding fields_in until_end split same_bytes
 first_more [] k h g = absurd (omega arith)
 first_more (b ∷ bs) k h g = simp (ne_eqb b line_feed g, ne_eqb b comma h) (rw (first_of_lem b (split (until_end bs)) (split_parted (until_end bs))))
 
@@ -133,12 +133,12 @@ pub ruleset first_ends = (first_none, first_feed, first_comma, first_more)
 -- ---- 61 or 62
 
 module _ (first : List ℕ) (count : ℕ) (bs : List ℕ) where
-  pub misshapen_first : is_same (first_in bs) first ≡ false → is_misshapen first count bs ≡ true
+  pub misshapen_first : same_bytes (first_in bs) first ≡ false → is_misshapen first count bs ≡ true
   unfolding is_misshapen
   misshapen_first e = simp (e, or-true)
 
   -- by the commas of the line, where it is ended
-  pub by_commas : is_same (first_in bs) first ≡ true → not (option_eq eqb (cond (is_ended bs) (Some (length (others_in bs))) None) (Some count)) ≡ is_misshapen first count bs
+  pub by_commas : same_bytes (first_in bs) first ≡ true → not (option_eq eqb (cond (is_ended bs) (Some (length (others_in bs))) None) (Some count)) ≡ is_misshapen first count bs
   unfolding is_misshapen
   by_commas e = simp e (go (is_ended bs))
     where

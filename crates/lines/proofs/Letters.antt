@@ -16,7 +16,7 @@ use Rattle.std.specs.Result.{result_and}
 use Rattle.lines.specs.Bytes.{line_feed, comma}
 use Rattle.lines.specs.Number.{value_of}
 use Rattle.lines.specs.Line.{LineKind, opening, card, sample, totals, first_field, in_edition, content_rows, count_of, card_of, line_of}
-use Rattle.lines.specs.Reading.{front_of, is_same, until_end, is_ended, size_of, with_first, split, fields_in, first_in, others_in, numbers_in, is_misshapen, shape_rows, line_rows, answer_of}
+use Rattle.lines.specs.Reading.{front_of, same_bytes, until_end, is_ended, size_of, with_first, split, fields_in, first_in, others_in, numbers_in, is_misshapen, shape_rows, line_rows, answer_of}
 use Rattle.lines.specs.Inside.Parts.{NumbersRead, all_read, line_refused, after_letter}
 use Rattle.lines.specs.declared.line.Line.{Line}
 use Rattle.lines.proofs.Splitting.{split_parted}
@@ -38,8 +38,8 @@ module _ (b : ℕ) (after : List ℕ) (apart : comma < b) where
   unfolding fields_in
   others_letter = ap (λ (fs : List (List ℕ)). drop 1 fs) fields_letter ∙ others_first b (fields_in after) (split_parted (until_end after))
 
-  same_letter : is_same (first_in (b ∷ after)) (b ∷ []) ≡ is_same (first_in after) []
-  unfolding is_same
+  same_letter : same_bytes (first_in (b ∷ after)) (b ∷ []) ≡ same_bytes (first_in after) []
+  unfolding same_bytes
   same_letter = rw first_letter (simp (eq-eqb b b refl))
 
   numbers_letter : numbers_in (b ∷ after) ≡ numbers_in after
@@ -78,7 +78,7 @@ module _ (e : ℕ) (k : LineKind) (after : List ℕ) where
   refused_shape r h = by_shape ∙ rw h
 
 -- a first field that goes on after the letter is refused with 61
-pub other_first : (e : ℕ) (k : LineKind) (b : ℕ) (after : List ℕ) → comma < b → is_same (first_in (b ∷ after)) (b ∷ []) ≡ false → after_letter e k after ≡ Err R.Shape
+pub other_first : (e : ℕ) (k : LineKind) (b : ℕ) (after : List ℕ) → comma < b → same_bytes (first_in (b ∷ after)) (b ∷ []) ≡ false → after_letter e k after ≡ Err R.Shape
 unfolding shape_rows first_of
 other_first e k b after c h =
     refused_shape e k after R.Shape (simp (misshapen_first [] (count_of e k) after (sym (same_letter b after c) ∙ h)))

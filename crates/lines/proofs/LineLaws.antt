@@ -10,11 +10,11 @@ use lib.Seq.{length-take-le}
 use Rattle.meter.specs.Edition.{keeps_seconds, counts_cold}
 use Rattle.meter.specs.Card.{fields_of}
 use Rattle.meter.specs.declared.card.Card.{Card}
-use Rattle.meter.specs.Sample.{fields_of as sample_fields}
+use Rattle.meter.specs.Sample.{sample_numbers}
 use Rattle.meter.specs.declared.sample.Sample.{Sample}
 use Rattle.meter.proofs.Elements.{all as all-elements}
-use Rattle.lines.specs.Number.{some_from, some_nonzero}
-use Rattle.lines.specs.Line.{LineKind, opening, card, sample, totals, kind_of, first_field, all_numbers_of, numbers_of, lacked_of, count_of, in_edition, card_of, sample_from, line_of}
+use Rattle.lines.specs.Number.{some_nonzero}
+use Rattle.lines.specs.Line.{LineKind, opening, card, sample, totals, totals_fields, kind_of, first_field, all_numbers_of, numbers_of, lacked_of, count_of, in_edition, card_of, sample_from, line_of}
 use Rattle.lines.specs.Inside.Parts.{most_later}
 use Rattle.lines.specs.declared.line.Line.{Line}
 use Rattle.lines.specs.declared.line.Line.TheVariants as L
@@ -33,8 +33,8 @@ unfolding line_of
 card_line c ns e = ap L.Card (sym (ap card_of (sym e) ∙ card_of_lem c))
 
 -- the line of a sample's numbers
-pub sample_line : (s : Sample) (ns : List ℕ) → sample_fields s ≡ ns → L.Sample s ≡ line_of sample ns
-unfolding line_of sample_fields
+pub sample_line : (s : Sample) (ns : List ℕ) → sample_numbers s ≡ ns → L.Sample s ≡ line_of sample ns
+unfolding line_of sample_numbers
 sample_line s ns e = ap (λ (l : List ℕ). L.Sample (sample_from l)) e
 
 -- line E has no more numbers in any edition than in the newest
@@ -42,14 +42,14 @@ pub totals_few : (e : ℕ) → count_of e totals ≤ most_later
 unfolding count_of
 totals_few e = by (counts_cold e) (keeps_seconds e)
   where
-    by : (counts keeps : Bool) → cond counts 6 (cond keeps 5 4) ≤ most_later
+    by : (counts keeps : Bool) → cond counts totals_fields (cond keeps 5 4) ≤ most_later
     by true keeps = omega arith
     by false true = omega arith
     by false false = omega arith
 
 -- LAW: the line of a line's kind and numbers is that line, where the fields that its edition lacks are zero
 pub line_of_lem : (line : EditionLine) → some_nonzero (lacked_of line) ≡ false → line_of (kind_of line.line) (numbers_of line) ≡ line.line
-unfolding line_of kind_of count_of all_numbers_of numbers_of lacked_of card_of fields_of
+unfolding line_of kind_of count_of all_numbers_of numbers_of lacked_of card_of fields_of sample_numbers
 line_of_lem l h = by l.edition l.line h
   where
     by : (e : ℕ) (line : Line) → some_nonzero (lacked_of (in_edition e line)) ≡ false → line_of (kind_of line) (numbers_of (in_edition e line)) ≡ line
@@ -64,7 +64,7 @@ line_of_lem l h = by l.edition l.line h
         (record {
           accepted = same 0 j;
           refused = same 1 j;
-          register = same 2 j;
+          heat_register = same 2 j;
           volume = same 3 j;
           kept_seconds = same 4 j;
           cold_register = same 5 j;
@@ -72,7 +72,7 @@ line_of_lem l h = by l.edition l.line h
 
 -- a line has as many numbers as its kind has in its edition
 pub numbers_counted : (l : EditionLine) → length (numbers_of l) ≡ count_of l.edition (kind_of l.line)
-unfolding kind_of count_of all_numbers_of numbers_of fields_of
+unfolding kind_of count_of all_numbers_of numbers_of fields_of sample_numbers
 numbers_counted l = by l.edition l.line
   where
     by : (e : ℕ) (line : Line) → length (numbers_of (in_edition e line)) ≡ count_of e (kind_of line)
@@ -96,7 +96,7 @@ totals_line e ns c = shown_first ns 0 (count_of e totals) most_later (omega arit
 
 -- LAW: the numbers of the line of a kind are those that it was made of. The opening's is its edition.
 pub numbers_line : (e : ℕ) (k : LineKind) (ns : List ℕ) → (k ≡ opening → ns ≡ e ∷ []) → length ns ≡ count_of e k → numbers_of (in_edition e (line_of k ns)) ≡ ns
-unfolding numbers_of all_numbers_of kind_of line_of count_of card_of fields_of
+unfolding numbers_of all_numbers_of kind_of line_of count_of card_of fields_of sample_numbers
 numbers_line e opening ns h c = sym (h refl)
 numbers_line e card ns h c = all-elements ns (count_of e card) c
 numbers_line e sample ns h c = all-elements ns (count_of e sample) c
@@ -104,7 +104,7 @@ numbers_line e totals ns h c = (totals_line e ns c).0
 
 -- and the fields that the edition lacks are zero
 pub line_lacked_zero : (e : ℕ) (k : LineKind) (ns : List ℕ) → length ns ≡ count_of e k → some_nonzero (lacked_of (in_edition e (line_of k ns))) ≡ false
-unfolding lacked_of all_numbers_of kind_of line_of count_of card_of fields_of some_from
+unfolding lacked_of all_numbers_of kind_of line_of count_of card_of fields_of sample_numbers
 line_lacked_zero e opening ns c = refl
 line_lacked_zero e card ns c = refl
 line_lacked_zero e sample ns c = refl

@@ -12,19 +12,12 @@ use native.Mathlib.Numerals.{add-one}
 use lib.ListN.{length, get_or, take, drop, set, length-append, drop_of_length-le}
 use lib.Seq.{drop-cons}
 use Rattle.lines.specs.Bytes.{line_feed, comma}
-use Rattle.lines.specs.Number.{decimal, most_digits64, some_from, some_long, some_nonzero}
+use Rattle.lines.specs.Number.{decimal, most_digits64, some_long, some_nonzero}
 use Rattle.lines.specs.Line.{kind_of, first_field, numbers_of, lacked_of, after_commas, text_of, bytes_of}
 use Rattle.lines.specs.Inside.Parts.{Parted, numbers_parted, most_numbers, put_front}
 use Rattle.lines.specs.declared.line.EditionLine.{EditionLine}
 use Rattle.lines.proofs.Decimals.{decimal_short}
 use Rattle.lines.proofs.Puts.{Wrote, wrote_none, wrote_length, wrote_room, wrote_more, wrote_byte}
-
--- ---- a number that is n or more
-
-pub some_is : (n : ℕ) (ns : List ℕ) → list_any (λ m. leb n m) ns ≡ some_from n ns
-unfolding some_from
-some_is n [] = refl
-some_is n (m ∷ ms) = ap (λ (t : Bool). leb n m || t) (some_is n ms)
 
 -- ---- how many bytes
 

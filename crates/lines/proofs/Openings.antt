@@ -14,7 +14,7 @@ use Rattle.quantity.proofs.Conditions.{inside}
 use Rattle.meter.specs.Edition.{last_edition, is_other_edition}
 use Rattle.lines.specs.Bytes.{line_feed, comma, digit_zero, archive_word}
 use Rattle.lines.specs.Line.{kind_of, first_field, count_of, all_numbers_of, numbers_of, after_commas, text_of, bytes_of, opening_in, opening_length}
-use Rattle.lines.specs.Reading.{is_same, opened_up_to, edition_in}
+use Rattle.lines.specs.Reading.{same_bytes, opened_up_to, edition_in}
 use Rattle.lines.specs.Theorems.{OpeningBytes}
 use Rattle.lines.specs.declared.line.MayCome.TheVariants as M
 use Rattle.lines.specs.declared.opening.TheConstants.{OPENINGS}
@@ -51,7 +51,7 @@ opening_bytes e h = (digit_bytes e (edition_most e h), opening_length_lem e h)
 
 -- bytes that begin with it, by the library's test
 pub opens_by : (bs w : List ℕ) (e : ℕ) → e ≤ last_edition → w ≡ bytes_of (opening_in e) →
-    pointwise eqb w (take (length w) bs) ≡ is_same (take opening_length bs) (bytes_of (opening_in e))
+    pointwise eqb w (take (length w) bs) ≡ same_bytes (take opening_length bs) (bytes_of (opening_in e))
 opens_by bs w e h g = same_pointwise (take (length w) bs) w ∙ rw (g, digit_length e h)
 
 -- the bytes tell the edition
@@ -63,7 +63,7 @@ edition_told e f h g p =
 module _ (bs : List ℕ) where
   -- the bytes begin with an edition's opening
   abbrev pub opens : ℕ → Bool
-  opens e = is_same (take opening_length bs) (bytes_of (opening_in e))
+  opens e = same_bytes (take opening_length bs) (bytes_of (opening_in e))
 
   -- an edition that is found is one whose opening they begin with
   found_opens : (n : ℕ) → (opened_up_to n bs ≡ 0) ⊎ (opens (opened_up_to n bs) ≡ true)

@@ -16,7 +16,7 @@ use Rattle.quantity.proofs.Rows.{parts}
 use Rattle.meter.specs.Edition.{is_other_edition}
 use Rattle.lines.specs.Bytes.{line_feed, comma, letter_c, letter_e, letter_s}
 use Rattle.lines.specs.Line.{LineKind, card, sample, totals, first_field, bytes_of, opening_in, in_edition, content_rows, opening_length, count_of, line_of}
-use Rattle.lines.specs.Reading.{front_of, is_same, until_end, size_of, split, fields_in, first_in, numbers_in, shape_rows, edition_in, due_kind, line_in, line_rows, later_rows, read_rows, answer_of, read_of}
+use Rattle.lines.specs.Reading.{front_of, same_bytes, until_end, size_of, split, fields_in, first_in, numbers_in, shape_rows, edition_in, due_kind, line_in, line_rows, later_rows, read_rows, answer_of, read_of}
 use Rattle.lines.specs.Inside.Parts.{after_letter}
 use Rattle.lines.specs.declared.line.MayCome.{MayCome}
 use Rattle.lines.specs.declared.line.MayCome.TheVariants as M
@@ -58,14 +58,14 @@ opening_told may bs e o p m = sym (ap (λ (y : MayCome). read_of y bs) m ∙ ope
 -- ---- the letter
 
 -- bytes that begin with another byte have another first field
-pub other_letter : (letter : ℕ) (bs : List ℕ) → (get_or bs 0 0 ≡ letter → ⊥) → is_same (first_in bs) (letter ∷ []) ≡ false
-unfolding fields_in until_end split is_same
+pub other_letter : (letter : ℕ) (bs : List ℕ) → (get_or bs 0 0 ≡ letter → ⊥) → same_bytes (first_in bs) (letter ∷ []) ≡ false
+unfolding fields_in until_end split same_bytes
 other_letter letter [] h = refl
 other_letter letter (b ∷ bs) h =
-    elim (eqb b line_feed) as (λ t. eqb b line_feed ≡ t → is_same (first_in (b ∷ bs)) (letter ∷ []) ≡ false) [
+    elim (eqb b line_feed) as (λ t. eqb b line_feed ≡ t → same_bytes (first_in (b ∷ bs)) (letter ∷ []) ≡ false) [
       | true ↦ λ e. simp e
       | false ↦ λ e.
-          (elim (eqb b comma) as (λ t. eqb b comma ≡ t → is_same (first_in (b ∷ bs)) (letter ∷ []) ≡ false) [
+          (elim (eqb b comma) as (λ t. eqb b comma ≡ t → same_bytes (first_in (b ∷ bs)) (letter ∷ []) ≡ false) [
             | true ↦ λ g. simp (e, g)
             | false ↦ λ g. simp (e, g) (rw (first_of_lem b (split (until_end bs)) (split_parted (until_end bs))) (simp (ne_eqb b letter h)))
           ] refl)
@@ -77,7 +77,7 @@ nothing_lem [] h letter k g = omega arith
 nothing_lem (b ∷ bs) h letter k g = omega arith
 
 -- bytes with another first field are refused with 61
-pub shape_other : (first : List ℕ) (count : ℕ) (bs : List ℕ) → is_same (first_in bs) first ≡ false → first_of (shape_rows first count bs) ≡ Err R.Shape
+pub shape_other : (first : List ℕ) (count : ℕ) (bs : List ℕ) → same_bytes (first_in bs) first ≡ false → first_of (shape_rows first count bs) ≡ Err R.Shape
 unfolding shape_rows first_of
 shape_other first count bs h = simp (misshapen_first first count bs h)
 
@@ -91,7 +91,7 @@ module _ (may : MayCome) (bs : List ℕ) (o : is_other_edition (edition_in may b
   by_due = rw (later, d, after_edition (edition_in may bs) (line_rows (edition_in may bs) k bs) o)
 
   -- where the bytes begin with another first field
-  wrong_first : is_same (first_in bs) (first_field k) ≡ false → read_of may bs ≡ Err R.Shape
+  wrong_first : same_bytes (first_in bs) (first_field k) ≡ false → read_of may bs ≡ Err R.Shape
   unfolding line_rows
   wrong_first h =
       let e : ℕ = edition_in may bs in
@@ -127,9 +127,9 @@ module _ (e : ℕ) (o : is_other_edition e ≡ false) where
   -- where the first field goes on after E, a sample's line is due, and both are refused alike
   end_read : (after : List ℕ) → read_of (M.SampleOrEnd e) (letter_e ∷ after) ≡ after_letter e totals after
   unfolding edition_in due_kind later_rows first_field
-  end_read after = go (is_same (first_in (letter_e ∷ after)) (letter_e ∷ [])) refl
+  end_read after = go (same_bytes (first_in (letter_e ∷ after)) (letter_e ∷ [])) refl
     where
-      go : (t : Bool) → is_same (first_in (letter_e ∷ after)) (letter_e ∷ []) ≡ t → read_of (M.SampleOrEnd e) (letter_e ∷ after) ≡ after_letter e totals after
+      go : (t : Bool) → same_bytes (first_in (letter_e ∷ after)) (letter_e ∷ []) ≡ t → read_of (M.SampleOrEnd e) (letter_e ∷ after) ≡ after_letter e totals after
       go true t = by_due (M.SampleOrEnd e) (letter_e ∷ after) o totals (rw t) refl ∙ by_letter e totals letter_e after (omega arith) refl
       go false t =
           wrong_first (M.SampleOrEnd e) (letter_e ∷ after) o sample (rw t) refl (other_letter letter_s (letter_e ∷ after) (λ g. omega arith))

@@ -19,9 +19,9 @@ use Rattle.std.specs.Result.{result_and}
 use Rattle.quantity.proofs.Rows.{answered, parts, no_refusal, none_applies, none_of_parts}
 use Rattle.meter.specs.Edition.{is_other_edition}
 use Rattle.lines.specs.Bytes.{letter_c, letter_h, letter_s}
-use Rattle.lines.specs.Number.{decimal, most_digits, some_from, some_long}
+use Rattle.lines.specs.Number.{decimal, most_digits, some_long}
 use Rattle.lines.specs.Line.{LineKind, opening, card, sample, totals, kind_of, first_field, all_numbers_of, numbers_of, lacked_of, text_of, bytes_of, opening_in, content_rows, count_of, line_of, opening_length}
-use Rattle.lines.specs.Reading.{front_of, is_same, size_of, fields_in, first_in, numbers_in, shape_rows, edition_in, due_kind, line_in, line_rows, later_rows, read_rows, read_of, rest_of}
+use Rattle.lines.specs.Reading.{front_of, same_bytes, size_of, fields_in, first_in, numbers_in, shape_rows, edition_in, due_kind, line_in, line_rows, later_rows, read_rows, read_of, rest_of}
 use Rattle.lines.specs.Writing.{Writable, write_rows, written_of, put_at, buffer_after}
 use Rattle.lines.specs.RoundTrip.{told_in, told_of, WritesBack}
 use Rattle.lines.specs.Theorems.{CanBeWritten, WrittenThenRead, ReadThenWritten, ReadWithin, OneLine}
@@ -66,7 +66,7 @@ first_read line rest = ap (λ (fs : List (List ℕ)). get_or fs 0 []) (bytes_fie
 
 -- LAW: the bytes of a line that no row of the writer refuses are read as that line
 pub reads_line : (line : EditionLine) (rest : List ℕ) → CanBeWritten line → read_of (told_of line) (bytes_of line ++ rest) ≡ front_of line (length (bytes_of line))
-unfolding told_in is_same edition_in due_kind later_rows kind_of first_field
+unfolding told_in same_bytes edition_in due_kind later_rows kind_of first_field
 reads_line l rest w = by l.edition l.line w
   where
     by : (e : ℕ) (line : Line) → CanBeWritten (record { edition = e; line = line })
@@ -142,7 +142,7 @@ rows_after may bs e = none_applies (read_rows may bs) e
 
 -- an edition's opening can be written
 opening_can : (e : ℕ) → is_other_edition e ≡ false → CanBeWritten (opening_in e)
-unfolding content_rows kind_of count_of all_numbers_of numbers_of lacked_of some_from
+unfolding content_rows kind_of count_of all_numbers_of numbers_of lacked_of
 opening_can e o =
     let small : e < 10 ^ most_digits = omega (arith, edition_most e o) in
     record { edition = o; content = tt; short = simp (lt-leb (10 ^ most_digits) e small); lacked_zero = refl }
@@ -185,7 +185,7 @@ writes : (may : MayCome) (bs : List ℕ) → is_other_edition (edition_in may bs
 unfolding line_in edition_in due_kind line_of later_rows told_in
 writes M.Opening bs o h = writes_opening bs o
 writes (M.Card e) bs o h = writes_due (M.Card e) e bs card (λ q. let z : ◌≡◌ {A = ℕ} 0 1 = cc q in omega arith) refl o h
-writes (M.SampleOrEnd e) bs o h = writes_later e bs (is_same (first_in bs) (first_field totals)) o h
+writes (M.SampleOrEnd e) bs o h = writes_later e bs (same_bytes (first_in bs) (first_field totals)) o h
 
 pub read_then_written : ReadThenWritten
 unfolding read_of

@@ -13,9 +13,9 @@ use Rattle.quantity.specs.Refusals.{first_of}
 use Rattle.quantity.proofs.Rows.{none_applies, no_refusal}
 use Rattle.quantity.proofs.Conditions.{neither, both}
 use Rattle.lines.specs.Bytes.{line_feed, comma}
-use Rattle.lines.specs.Number.{decimal, is_digit, are_digits, is_number, value_of, most_digits, some_from, some_long}
+use Rattle.lines.specs.Number.{decimal, is_digit, are_digits, is_number, value_of, most_digits, some_long}
 use Rattle.lines.specs.Line.{after_commas, text_of}
-use Rattle.lines.specs.Reading.{is_same, until_end, is_ended, size_of, fields_in, first_in, others_in, are_numbers, numbers_in, is_misshapen, shape_rows}
+use Rattle.lines.specs.Reading.{same_bytes, until_end, is_ended, size_of, fields_in, first_in, others_in, are_numbers, numbers_in, is_misshapen, shape_rows}
 use Rattle.lines.proofs.Decimals.{true_both, decimal_digits, decimal_is_number, value_decimal, number_decimal, number_small}
 use Rattle.lines.proofs.Same.{same_refl, same_true}
 use Rattle.lines.proofs.Splitting.{lacks, EachLacks, lacks_append, lacks_commas, split_joined, until_end_lem, is_ended_lem, ended_bytes, joined_split}
@@ -40,7 +40,7 @@ values_decimals [] = refl
 values_decimals (n ∷ ns) = rw (value_decimal n, values_decimals ns)
 
 decimals_numbers : (ns : List ℕ) → some_long ns ≡ false → are_numbers (map decimal ns) ≡ true
-unfolding some_from are_numbers
+unfolding are_numbers
 decimals_numbers [] h = refl
 decimals_numbers (n ∷ ns) h =
     let q = neither (leb (10 ^ most_digits) n) (some_long ns) h in
@@ -54,7 +54,7 @@ numbers_decimals (f ∷ fs) h =
     rw (number_decimal f q.0, numbers_decimals fs q.1)
 
 numbers_short : (fs : List (List ℕ)) → are_numbers fs ≡ true → some_long (map value_of fs) ≡ false
-unfolding are_numbers some_from
+unfolding are_numbers
 numbers_short [] h = refl
 numbers_short (f ∷ fs) h =
     let q = both (is_number f) (are_numbers fs) h in
@@ -121,10 +121,10 @@ pub shape_forth : (first : List ℕ) (count : ℕ) (bs : List ℕ) → first_of 
 unfolding shape_rows is_misshapen fields_in
 shape_forth first count bs h =
     let n = none_applies (shape_rows first count bs) h in
-    let q = neither (not (is_ended bs)) (not (is_same (first_in bs) first) || not (eqb (length (others_in bs)) count)) n.0 in
-    let r = neither (not (is_same (first_in bs) first)) (not (eqb (length (others_in bs)) count)) q.1 in
+    let q = neither (not (is_ended bs)) (not (same_bytes (first_in bs) first) || not (eqb (length (others_in bs)) count)) n.0 in
+    let r = neither (not (same_bytes (first_in bs) first)) (not (eqb (length (others_in bs)) count)) q.1 in
     let ended : is_ended bs ≡ true = not-false (is_ended bs) q.0 in
-    let first_is : first_in bs ≡ first = same_true (first_in bs) first (not-false (is_same (first_in bs) first) r.0) in
+    let first_is : first_in bs ≡ first = same_true (first_in bs) first (not-false (same_bytes (first_in bs) first) r.0) in
     let count_is : length (others_in bs) ≡ count = eqb-true (length (others_in bs)) count (not-false (eqb (length (others_in bs)) count) r.1) in
     let numbers : are_numbers (others_in bs) ≡ true = not-false (are_numbers (others_in bs)) n.1.0 in
     let others_are : map decimal (numbers_in bs) ≡ others_in bs = numbers_decimals (others_in bs) numbers in

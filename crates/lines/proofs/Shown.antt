@@ -11,7 +11,7 @@ use lib.Seq.{drop-cons, drop-length, get_or-drop}
 use borrow.Author.Tests.{leb-false}
 use Rattle.quantity.proofs.Conditions.{neither}
 use Rattle.meter.proofs.Elements.{elements}
-use Rattle.lines.specs.Number.{some_from, some_nonzero}
+use Rattle.lines.specs.Number.{some_nonzero}
 
 -- places that say nothing
 abbrev pub AreZero : List ℕ → Type 0
@@ -33,7 +33,6 @@ zero_after (n ∷ ns) zs z (suc i) = zero_after ns zs z i
 
 -- so are numbers none of which is other than zero
 none_other : (ns : List ℕ) → some_nonzero ns ≡ false → AreZero ns
-unfolding some_from
 none_other [] h i = refl
 none_other (n ∷ ns) h zero =
     let below : n < 1 = leb-false 1 n (neither (leb 1 n) _ h).0 in
@@ -47,7 +46,6 @@ as_shown k ns i h =
 
 -- beyond a list's end there are zeros only
 none_beyond : (ns : List ℕ) (i n : ℕ) → length ns ≤ i → some_nonzero (elements ns i n) ≡ false
-unfolding some_from
 none_beyond ns i zero h = refl
 none_beyond ns i (suc n) h =
     ap₂ (λ (x : ℕ) (b : Bool). leb 1 x || b) (get_or-eq_default ns 0 {n = i} h) (none_beyond ns (suc i) n (omega arith))

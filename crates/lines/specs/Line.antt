@@ -3,6 +3,7 @@ use Rattle.std.specs.Prelude.{ℕ, cond, List, [], ◌∷◌, ◌++◌, map, get
 use Rattle.quantity.specs.declared.refusal.Row.{Row}
 use Rattle.meter.specs.Edition.{keeps_seconds, counts_cold}
 use Rattle.meter.specs.Card.{fields_of, card_fields, card_rows}
+use Rattle.meter.specs.Sample.{sample_numbers, sample_fields}
 use Rattle.meter.specs.declared.card.Card.{Card}
 use Rattle.meter.specs.declared.sample.Sample.{Sample}
 use Rattle.meter.specs.declared.state.Meter.{Meter}
@@ -33,27 +34,31 @@ first_field card = letter_c ∷ []
 first_field sample = letter_s ∷ []
 first_field totals = letter_e ∷ []
 
+-- how many numbers line E has in the newest edition, which has the most
+abbrev pub totals_fields : ℕ
+totals_fields = 6
+
 -- how many numbers a line of a kind has after it in an edition: those of E are "accepted, refused, register, volume"; the kept seconds "stand as
 -- a fifth field on the E line" in an edition that keeps them, and "HEATARCHIVE,3 adds the cold register as a sixth E field"
 unfoldable pub count_of : ℕ → LineKind → ℕ
 count_of e opening = 1
 count_of e card = card_fields
-count_of e sample = 4
-count_of e totals = cond (counts_cold e) 6 (cond (keeps_seconds e) 5 4)
+count_of e sample = sample_fields
+count_of e totals = cond (counts_cold e) totals_fields (cond (keeps_seconds e) 5 4)
 
 -- the totals of a meter's end state, and their numbers
 abbrev pub totals_of : Meter → Totals
 totals_of m = record {
   accepted = m.accepted;
   refused = m.refused;
-  register = m.register;
+  heat_register = m.heat_register;
   volume = m.volume;
   kept_seconds = m.kept_seconds;
   cold_register = m.cold_register;
 }
 
 abbrev pub totals_numbers : Totals → List ℕ
-totals_numbers t = t.accepted ∷ t.refused ∷ t.register ∷ t.volume ∷ t.kept_seconds ∷ t.cold_register ∷ []
+totals_numbers t = t.accepted ∷ t.refused ∷ t.heat_register ∷ t.volume ∷ t.kept_seconds ∷ t.cold_register ∷ []
 
 -- The numbers that a line can have, in order: the edition in the opening; "one line C with the card's twelve fields, any count of lines S
 -- with a sample's four, one line E with accepted, refused, register, volume", the kept seconds and the cold register.
@@ -63,7 +68,7 @@ all_numbers_of l = by l.line
     by : Line → List ℕ
     by L.Opening = l.edition ∷ []
     by (L.Card c) = fields_of c
-    by (L.Sample s) = s.pulses ∷ s.seconds ∷ s.supply_reading ∷ s.return_reading ∷ []
+    by (L.Sample s) = sample_numbers s
     by (L.End t) = totals_numbers t
 
 -- those that it has in its edition, and those "in a field that the edition lacks"
@@ -129,7 +134,7 @@ abbrev pub totals_from : List ℕ → Totals
 totals_from ns = record {
   accepted = get_or ns 0 0;
   refused = get_or ns 1 0;
-  register = get_or ns 2 0;
+  heat_register = get_or ns 2 0;
   volume = get_or ns 3 0;
   kept_seconds = get_or ns 4 0;
   cold_register = get_or ns 5 0;

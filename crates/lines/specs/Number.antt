@@ -1,5 +1,6 @@
 -- A number's text, document 01, "Archive text": "A number has 1 to 18 digits and no leading zero except 0 itself."
 use Rattle.std.specs.Prelude.{ℕ, zero, suc, ◌+◌, ◌-◌, ◌*◌, ◌/◌, ◌%◌, ◌^◌, Bool, true, false, not, cond, ◌&&◌, ◌||◌, List, [], ◌∷◌, ◌++◌, ltb, leb, eqb, length, get_or}
+use Rattle.std.specs.List.{list_any}
 use Rattle.lines.specs.Bytes.{digit_zero, digit_nine}
 
 -- the bytes of n: its digit of each place, the highest place first; at most f digits stand before the last one
@@ -36,15 +37,10 @@ most_digits = 18
 unfoldable pub is_number : List ℕ → Bool
 is_number bs = are_digits bs && (leb 1 (length bs) && (leb (length bs) most_digits && (eqb (length bs) 1 || not (eqb (get_or bs 0 0) digit_zero))))
 
--- one of the numbers is n or more
-unfoldable pub some_from : ℕ → List ℕ → Bool
-some_from n [] = false
-some_from n (m ∷ ms) = leb n m || some_from n ms
-
 -- "value of over 18 digits"
 abbrev pub some_long : List ℕ → Bool
-some_long ns = some_from (10 ^ most_digits) ns
+some_long ns = list_any (leb (10 ^ most_digits)) ns
 
 -- "a number other than zero"
 abbrev pub some_nonzero : List ℕ → Bool
-some_nonzero ns = some_from 1 ns
+some_nonzero ns = list_any (leb 1) ns

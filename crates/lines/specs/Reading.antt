@@ -16,11 +16,11 @@ use Rattle.lines.specs.declared.line.MayCome.TheVariants as M
 use Rattle.lines.specs.declared.line.Front.{Front}
 
 -- the same bytes
-unfoldable pub is_same : List ℕ → List ℕ → Bool
-is_same [] [] = true
-is_same [] (y ∷ ys) = false
-is_same (x ∷ xs) [] = false
-is_same (x ∷ xs) (y ∷ ys) = eqb x y && is_same xs ys
+unfoldable pub same_bytes : List ℕ → List ℕ → Bool
+same_bytes [] [] = true
+same_bytes [] (y ∷ ys) = false
+same_bytes (x ∷ xs) [] = false
+same_bytes (x ∷ xs) (y ∷ ys) = eqb x y && same_bytes xs ys
 
 -- "Lines end with byte 0A": the bytes before the first 0A, and whether there is one
 unfoldable pub until_end : List ℕ → List ℕ
@@ -63,7 +63,7 @@ numbers_in bs = map value_of (others_in bs)
 
 -- "61 line unended, wrong letter or field count": a line whose first field is first, with count numbers, is due
 unfoldable pub is_misshapen : List ℕ → ℕ → List ℕ → Bool
-is_misshapen first count bs = not (is_ended bs) || (not (is_same (first_in bs) first) || not (eqb (length (others_in bs)) count))
+is_misshapen first count bs = not (is_ended bs) || (not (same_bytes (first_in bs) first) || not (eqb (length (others_in bs)) count))
 
 -- "61 ..; 62 number, left to right"
 unfoldable pub shape_rows : List ℕ → ℕ → List ℕ → List Row
@@ -72,7 +72,7 @@ shape_rows first count bs = row R.Shape (is_misshapen first count bs) ∷ row R.
 -- "The opening's reader answers the edition": the one, of those up to e, whose opening the bytes begin with; 0, which is none, where there is none
 unfoldable pub opened_up_to : ℕ → List ℕ → ℕ
 opened_up_to zero bs = 0
-opened_up_to (suc e) bs = cond (is_same (take opening_length bs) (bytes_of (opening_in (suc e)))) (suc e) (opened_up_to e bs)
+opened_up_to (suc e) bs = cond (same_bytes (take opening_length bs) (bytes_of (opening_in (suc e)))) (suc e) (opened_up_to e bs)
 
 -- "the other line operations take it": the line's edition, found in the opening and told of the others
 unfoldable pub edition_in : MayCome → List ℕ → ℕ
@@ -84,7 +84,7 @@ edition_in (M.SampleOrEnd e) bs = e
 unfoldable pub due_kind : MayCome → List ℕ → LineKind
 due_kind M.Opening bs = opening
 due_kind (M.Card e) bs = card
-due_kind (M.SampleOrEnd e) bs = cond (is_same (first_in bs) (first_field totals)) totals sample
+due_kind (M.SampleOrEnd e) bs = cond (same_bytes (first_in bs) (first_field totals)) totals sample
 
 -- the line that the bytes say, where no row refuses them
 unfoldable pub line_in : MayCome → List ℕ → EditionLine

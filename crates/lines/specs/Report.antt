@@ -10,8 +10,8 @@ use Rattle.lines.specs.declared.report.Report.{Report}
 use Rattle.lines.specs.declared.report.Report.TheVariants as R
 
 unfoldable pub report_text : Report → List ℕ
-report_text (R.EndState serial accepted refused register volume) = text_of (letter_r ∷ []) (serial ∷ accepted ∷ refused ∷ register ∷ volume ∷ [])
-report_text (R.Refusal number line) = text_of (letter_x ∷ []) (number ∷ line ∷ [])
+report_text (R.EndState serial accepted refused heat_register volume) = text_of (letter_r ∷ []) (serial ∷ accepted ∷ refused ∷ heat_register ∷ volume ∷ [])
+report_text (R.Refused number line) = text_of (letter_x ∷ []) (number ∷ line ∷ [])
 
 -- an output line has at most five numbers
 abbrev pub most_reported : ℕ

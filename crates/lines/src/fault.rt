@@ -1,7 +1,7 @@
 // The refusal of a line whose numbers could not all be read. Only such a line is gone through a second time.
 ghost use Rattle.std.specs.Prelude.{◌≡◌, ◌==◌, not, cond, [], length, count_by, position};
 ghost use Rattle.lines.specs.Bytes.{line_feed, comma};
-ghost use Rattle.lines.specs.Reading.{is_same, is_ended, first_in, others_in, is_misshapen};
+ghost use Rattle.lines.specs.Reading.{same_bytes, is_ended, first_in, others_in, is_misshapen};
 
 use quantity::Refusal;
 
@@ -27,7 +27,7 @@ fn is_misshapen(after: &[u8], count: usize) -> bool
 // Whether the first field goes on after the letter.
 #[tactic(auto, using(crate::proofs::Faults::first_ends))]
 fn goes_on(after: &[u8]) -> bool
-    ensures { result ≡ not (is_same (first_in after.now) []) }
+    ensures { result ≡ not (same_bytes (first_in after.now) []) }
 {
     match after {
         [] | [b',' | b'\n', ..] => false,

@@ -2,29 +2,32 @@
 use meter::{Card, Meter, Sample};
 use quantity::Refusal;
 
+/// The numbers of line E in the newest edition, which has the most.
+pub const TOTALS_FIELDS: usize = 6;
+
 /// What line E carries, in its order: a meter's end state, with heat and cold in mJ, the volume in mL and the kept seconds. Every edition's fields stand
 /// here; one that an edition lacks is zero.
 #[derive(Clone, Copy, Debug, PartialEq, Eq)]
 pub struct Totals {
     pub accepted: u64,
     pub refused: u64,
-    pub register: u64,
+    pub heat_register: u64,
     pub volume: u64,
     pub kept_seconds: u64,
     pub cold_register: u64,
 }
 
-impl From<[u64; 6]> for Totals {
+impl From<[u64; TOTALS_FIELDS]> for Totals {
     ghost use Rattle.std.specs.Prelude.{◌≡◌};
     ghost use Rattle.lines.specs.Line.{totals_from};
 
     ghost from_gives = { λ numbers t. t ≡ totals_from numbers };
 
-    fn from(numbers: [u64; 6]) -> Totals {
+    fn from(numbers: [u64; TOTALS_FIELDS]) -> Totals {
         let [
             accepted,
             refused,
-            register,
+            heat_register,
             volume,
             kept_seconds,
             cold_register,
@@ -32,7 +35,7 @@ impl From<[u64; 6]> for Totals {
         Totals {
             accepted,
             refused,
-            register,
+            heat_register,
             volume,
             kept_seconds,
             cold_register,
@@ -40,17 +43,17 @@ impl From<[u64; 6]> for Totals {
     }
 }
 
-impl From<Totals> for [u64; 6] {
+impl From<Totals> for [u64; TOTALS_FIELDS] {
     ghost use Rattle.std.specs.Prelude.{◌≡◌};
     ghost use Rattle.lines.specs.Line.{totals_numbers};
 
     ghost from_gives = { λ t numbers. numbers ≡ totals_numbers t };
 
-    fn from(t: Totals) -> [u64; 6] {
+    fn from(t: Totals) -> [u64; TOTALS_FIELDS] {
         [
             t.accepted,
             t.refused,
-            t.register,
+            t.heat_register,
             t.volume,
             t.kept_seconds,
             t.cold_register,
@@ -69,7 +72,7 @@ impl From<Meter> for Totals {
         Totals {
             accepted: m.accepted,
             refused: m.refused,
-            register: m.register,
+            heat_register: m.heat_register,
             volume: m.volume,
             kept_seconds: m.kept_seconds,
             cold_register: m.cold_register,

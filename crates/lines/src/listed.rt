@@ -5,7 +5,7 @@ ghost use Rattle.lines.specs.Number.{decimal};
 ghost use Rattle.lines.specs.Line.{totals, kind_of, first_field, count_of};
 ghost use Rattle.lines.specs.Inside.Parts.{parted_at, numbers_parted, most_numbers, most_later};
 
-use crate::line::{EditionLine, Line};
+use crate::line::{EditionLine, Line, TOTALS_FIELDS};
 use crate::number::width;
 use crate::opening::opening_word;
 use meter::{CARD_FIELDS, SAMPLE_FIELDS, counts_cold, keeps_seconds};
@@ -15,7 +15,7 @@ use std::marker::Model;
 pub(crate) const MOST_NUMBERS: usize = CARD_FIELDS;
 
 // Of the lines after it, the last one has the most, in the newest edition.
-pub(crate) const MOST_LATER: usize = 6;
+pub(crate) const MOST_LATER: usize = TOTALS_FIELDS;
 
 // The first count of the numbers are those that a line can have, and of these it has the first shown. No vector of fixed room would do for both
 // lengths, so the model says what the two mean, and no function outside sees them.
@@ -69,7 +69,7 @@ impl Listed {
 }
 
 // The numbers of a line in its edition, in the papers' order.
-#[tactic(auto, unfolding(crate::specs::Line::kind_of, crate::specs::Line::count_of, crate::specs::Line::all_numbers_of, meter::specs::Card::fields_of, meter::specs::Sample::fields_of))]
+#[tactic(auto, unfolding(crate::specs::Line::kind_of, crate::specs::Line::count_of, crate::specs::Line::all_numbers_of, meter::specs::Card::fields_of, meter::specs::Sample::sample_numbers))]
 pub(crate) fn numbers_of(what: EditionLine) -> Listed
     ensures { result ≡ numbers_parted what }
 {
@@ -77,7 +77,7 @@ pub(crate) fn numbers_of(what: EditionLine) -> Listed
         Line::Opening => Listed::new(&[what.edition], 1),
         Line::Card(c) => Listed::new(&<[u64; CARD_FIELDS]>::from(c), CARD_FIELDS),
         Line::Sample(s) => Listed::new(&<[u64; SAMPLE_FIELDS]>::from(s), SAMPLE_FIELDS),
-        Line::End(t) => Listed::new(&<[u64; 6]>::from(t), totals_count(what.edition)),
+        Line::End(t) => Listed::new(&<[u64; TOTALS_FIELDS]>::from(t), totals_count(what.edition)),
     }
 }
 
@@ -87,7 +87,7 @@ pub(crate) fn totals_count(edition: u64) -> usize
     ensures { (result ≡ count_of edition totals) × (result ≤ most_later) }
 {
     if counts_cold(edition) {
-        return 6;
+        return TOTALS_FIELDS;
     }
     if keeps_seconds(edition) { 5 } else { 4 }
 }

@@ -21,10 +21,10 @@ pub enum Report {
         serial: u64,
         accepted: u64,
         refused: u64,
-        register: u64,
+        heat_register: u64,
         volume: u64,
     },
-    Refusal {
+    Refused {
         number: u64,
         line: u64,
     },
@@ -50,10 +50,10 @@ pub fn report_line(report: Report) -> OutputLine
             serial,
             accepted,
             refused,
-            register,
+            heat_register,
             volume,
-        } => output_of(b"R", &[serial, accepted, refused, register, volume]),
-        Report::Refusal { number, line } => output_of(b"X", &[number, line]),
+        } => output_of(b"R", &[serial, accepted, refused, heat_register, volume]),
+        Report::Refused { number, line } => output_of(b"X", &[number, line]),
     }
 }
 

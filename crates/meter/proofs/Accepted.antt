@@ -10,8 +10,8 @@ use Rattle.quantity.specs.Refusals.{NoneApplies}
 use Rattle.quantity.proofs.Conditions.{neither, both, inside}
 use Rattle.quantity.specs.Units.{last_hundredth, is_colder, distance_of}
 use Rattle.quantity.specs.declared.units.Temperature.{Temperature}
-use Rattle.quantity.specs.declared.range.Position.{Position}
-use Rattle.quantity.specs.declared.range.Position.TheVariants.{Supply, Return}
+use Rattle.quantity.specs.declared.range.Role.{Role}
+use Rattle.quantity.specs.declared.range.Role.TheVariants.{Supply, Return}
 use Rattle.quantity.specs.declared.range.End.TheVariants.{Low, High}
 use Rattle.quantity.proofs.Rows.{none_of_parts}
 use Rattle.platinum.specs.Sensor.{sensor_of, is_unknown}
@@ -89,7 +89,7 @@ zero_passes : (has : Bool) (n : ℕ) → (has ≡ false → n ≡ 0) → (not ha
 zero_passes has n h = not_both_if has (ltb 0 n) (λ k. le-ltb 0 n (omega (arith, h k)))
 
 -- each of the two registers
-each : (P : ℕ → Type 0) (m : Meter) → P m.register → P m.cold_register → (r : Register) → P (register_of r m)
+each : (P : ℕ → Type 0) (m : Meter) → P m.heat_register → P m.cold_register → (r : Register) → P (register_of r m)
 each P m h g Heat = h
 each P m h g Cold = g
 
@@ -108,9 +108,9 @@ accepted_state m h =
     let fits = neither (other || ltb (most_seconds * m.accepted) n || (not keeps && ltb 0 n)) (not cold && ltb 0 k) h20.1 in
     let seconds = neither (other || ltb (most_seconds * m.accepted) n) (not keeps && ltb 0 n) fits.0 in
     let known = neither other (ltb (most_seconds * m.accepted) n) seconds.0 in
-    let limits = neither (ltb largest_register m.register || ltb largest_register k || ltb largest_volume m.volume) (ltb largest_count (m.accepted + m.refused)) h20.0 in
-    let amounts = neither (ltb largest_register m.register || ltb largest_register k) (ltb largest_volume m.volume) limits.0 in
-    let two = neither (ltb largest_register m.register) (ltb largest_register k) amounts.0 in
+    let limits = neither (ltb largest_register m.heat_register || ltb largest_register k || ltb largest_volume m.volume) (ltb largest_count (m.accepted + m.refused)) h20.0 in
+    let amounts = neither (ltb largest_register m.heat_register || ltb largest_register k) (ltb largest_volume m.volume) limits.0 in
+    let two = neither (ltb largest_register m.heat_register) (ltb largest_register k) amounts.0 in
     record {
       registers = each (λ (x : ℕ). x ≤ largest_register) m (ltb-false _ _ two.0) (ltb-false _ _ two.1);
       volume = ltb-false _ _ amounts.1;
@@ -182,7 +182,7 @@ accepted_limits m s h =
     record { own = ltb-false _ _ room.0; volume = ltb-false _ _ room.1 }
 
 -- both readings have a temperature: the default of a missing one is never that of an accepted sample
-has_temperature : (p : Position) (x : Result Temperature Unmeasured) → NoneApplies (end_rows p x) → (t : Temperature) × (x ≡ Ok t)
+has_temperature : (p : Role) (x : Result Temperature Unmeasured) → NoneApplies (end_rows p x) → (t : Temperature) × (x ≡ Ok t)
 has_temperature p (Ok t) h = (t, refl)
 has_temperature p (Err (Outside Low)) h = let z : ◌≡◌ {A = ℕ} 0 1 = cc h.0 in absurd (omega arith)
 has_temperature p (Err (Outside High)) h = let z : ◌≡◌ {A = ℕ} 0 1 = cc h.1.0 in absurd (omega arith)
@@ -192,7 +192,7 @@ pub accepted_readings : (c : Card) (s : Sample) → NoneApplies (reading_rows c 
 unfolding reading_rows
 accepted_readings c s h =
     let p = none_of_parts (end_rows Supply (supply_of c s)) (end_rows Return (return_of c s)) h in
-    record { supply = has_temperature Supply _ p.0; returned = has_temperature Return _ p.1 }
+    record { of_supply = has_temperature Supply _ p.0; of_return = has_temperature Return _ p.1 }
 
 -- a temperature of the definitions, the default among them, is at most 180.00 °C
 by_answer : (x : Result Temperature Unmeasured) → ((t : Temperature) → x ≡ Ok t → t.0 ≤ last_hundredth) → (temperature_or_missing x).0 ≤ last_hundredth

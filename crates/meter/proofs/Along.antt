@@ -9,7 +9,7 @@ use native.Mathlib.Omega.{arith}
 use lib.Dec.{eqb}
 use borrow.Author.Tests.{le-ltb, eq-eqb, ne_eqb}
 use Rattle.quantity.specs.Refusals.{number_of, refusal_number, first_of}
-use Rattle.quantity.specs.Range.{end_refusal}
+use Rattle.quantity.specs.Range.{refusal_at_end}
 use Rattle.std.specs.Prelude.{Result, Ok, Err}
 use Rattle.quantity.specs.declared.refusal.Refusal.{Refusal}
 use Rattle.quantity.specs.declared.refusal.Refusal.TheVariants.{CountsFull, Profile}
@@ -110,7 +110,7 @@ pub by_state : (m : Meter) → WithinLimits m → first_of (state_rows m) ≡ co
 unfolding state_rows first_of
 by_state m g =
     simp (
-      le-ltb largest_register m.register (g.registers Heat),
+      le-ltb largest_register m.heat_register (g.registers Heat),
       le-ltb largest_register m.cold_register (g.registers Cold),
       le-ltb largest_volume m.volume g.volume,
       le-ltb largest_count (m.accepted + m.refused) g.counts,
@@ -135,7 +135,7 @@ only_21 m r g e = (full m r g e).0
 
 -- and the rows of the sample have larger numbers
 pub sample_number : (m : Meter) (s : Sample) (r : Refusal) → first_of (sample_rows m s) ≡ Err r → 30 ≤ number_of r
-unfolding count_rows reading_rows range_rows limit_rows end_refusal number_of
+unfolding count_rows reading_rows range_rows limit_rows refusal_at_end number_of
 sample_number m s r e = of_some_row (λ (k : Refusal). 30 ≤ number_of k) (sample_rows m s) r (omega arith) e
 
 pub larger : (r : Refusal) → 30 ≤ number_of r → number_of r ≡ 21 → ⊥
@@ -148,7 +148,7 @@ number_21 r e = rw e refl
 
 -- no row of the step has the number 73
 sample_not_73 : (m : Meter) (s : Sample) (r : Refusal) → first_of (sample_rows m s) ≡ Err r → eqb (number_of r) 73 ≡ false
-unfolding count_rows reading_rows range_rows limit_rows end_refusal number_of
+unfolding count_rows reading_rows range_rows limit_rows refusal_at_end number_of
 sample_not_73 m s r e = of_some_row (λ (k : Refusal). eqb (number_of k) 73 ≡ false) (sample_rows m s) r (search rules) e
 
 before_not_73 : (m : Meter) (r : Refusal) → first_of (card_and_state_rows m) ≡ Err r → eqb (number_of r) 73 ≡ false

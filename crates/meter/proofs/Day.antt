@@ -13,10 +13,11 @@ use borrow.Author.Tests.{lt-ltb, ltb-true, eqb-false}
 use Rattle.quantity.specs.Fractions.{floored}
 use Rattle.quantity.specs.Refusals.{number_of, refusal_number, first_of}
 use Rattle.std.specs.Prelude.{Result, Ok, Err}
+use Rattle.std.specs.List.{sum}
 use Rattle.quantity.specs.declared.refusal.Refusal.{Refusal}
 use Rattle.quantity.proofs.Rows.{no_refusal}
 use Rattle.meter.specs.Calls.{Calls, none, in_quarter, is_accepted, mark_of}
-use Rattle.meter.specs.Day.{InQuarter, DayCalls, no_call, call, day_of, day_asked, together}
+use Rattle.meter.specs.Day.{InQuarter, DayCalls, no_call, call, day_of, day_asked}
 use Rattle.meter.specs.Profile.{quarters, zero_cells, profile_rows, cell_at, by_profile, in_quarter_of}
 use Rattle.meter.specs.Register.{own_register, added_to}
 use Rattle.meter.specs.Run.{Asking, asks_in_quarter, asked_of}
@@ -34,7 +35,7 @@ use Rattle.meter.specs.declared.state.Meter.{Meter}
 use Rattle.meter.specs.declared.stepping.Stepped.{Stepped}
 use Rattle.meter.proofs.Accepted.{accepted_state, accepted_limits}
 use Rattle.meter.proofs.Along.{step_not_73}
-use Rattle.meter.proofs.Cells.{raised_together, cell_at_most, zeros_together, all_at_most}
+use Rattle.meter.proofs.Cells.{sum_raised, cell_at_most, sum_zeros, all_at_most}
 use Rattle.meter.proofs.Leaves.{Leaves, adds, counts, keeps, leaves}
 use Rattle.meter.proofs.Quarters.{heat_by, grown, cells_raised, admitted, in_quarter_exactly, in_quarter_cells, as_many}
 use Rattle.meter.proofs.Registers.{room_in_each}
@@ -43,19 +44,19 @@ use Rattle.meter.proofs.Registers.{room_in_each}
 
 -- all cells together are raised by what the call adds to the heat register
 by_rows : (m : Meter) (cells : List ℕ) (s : Sample) (i : ℕ) (o : Result Unit Refusal) → first_of (profile_rows cells i) ≡ o → length cells ≡ quarters →
-    together (by_profile m cells s i o).cells ≡ together cells + heat_by m.card s (by_profile m cells s i o).stepped.outcome
+    sum (by_profile m cells s i o).cells ≡ sum cells + heat_by m.card s (by_profile m cells s i o).stepped.outcome
 by_rows m cells s i (Ok u) e long =
     let within = (admitted cells i e).within in
-    ap together (cells_raised m.card cells s i (step_of m s).outcome) ∙ raised_together cells i _ (omega arith)
-by_rows m cells s i (Err n) e long = sym (add-zero (together cells))
+    ap sum (cells_raised m.card cells s i (step_of m s).outcome) ∙ sum_raised cells i _ (omega arith)
+by_rows m cells s i (Err n) e long = sym (add-zero (sum cells))
 
 raised_by_call : (m : Meter) (cells : List ℕ) (s : Sample) (i : ℕ) → length cells ≡ quarters →
-    together (in_quarter_of m cells s i).cells ≡ together cells + heat_by m.card s (in_quarter_of m cells s i).stepped.outcome
+    sum (in_quarter_of m cells s i).cells ≡ sum cells + heat_by m.card s (in_quarter_of m cells s i).stepped.outcome
 unfolding in_quarter_of
 raised_by_call m cells s i long = by_rows m cells s i (first_of (profile_rows cells i)) refl long
 
 -- what is no more than the register has room in it for what the call adds
-room_beside : (m : Meter) (s : Sample) (a : Stepped) (n : ℕ) → Leaves m s a → n ≤ m.register → n ≤ largest_register →
+room_beside : (m : Meter) (s : Sample) (a : Stepped) (n : ℕ) → Leaves m s a → n ≤ m.heat_register → n ≤ largest_register →
     n + heat_by m.card s a.outcome ≤ largest_register
 room_beside m s a n (adds h) few small =
     let heat = floored (sample_heat m.card s) in
@@ -80,7 +81,7 @@ by_definition m cells s i long a own =
       ap (λ (l : List ℕ). cell_at l i) (in_quarter_cells m cells s i)
           ∙ get_or-set_same cells i (cell_at cells i + heat_by m.card s p.stepped.outcome) 0 (omega arith)
           ∙ ap (λ (n : ℕ). cell_at cells i + n) heat,
-      grown m s p.stepped (leaves m (asks_in_quarter cells s i)) ∙ ap (λ (n : ℕ). m.register + n) heat,
+      grown m s p.stepped (leaves m (asks_in_quarter cells s i)) ∙ ap (λ (n : ℕ). m.heat_register + n) heat,
     )
 
 pub cell_as_register : (m : Meter) (cells : List ℕ) (s : Sample) (i : ℕ) (a : Profiled) → a ≡ in_quarter_of m cells s i → length cells ≡ quarters →
@@ -92,8 +93,8 @@ cell_as_register m cells s i a same long = subst (CellAsRegister m cells s i) (s
 -- since the heat register stood at start: 96 cells, which together are what it grew by, and no more than it can hold
 record Since (start : ℕ) (m : Meter) (cells : List ℕ) : Type 0 where
   long : length cells ≡ quarters
-  growth : together cells + start ≡ m.register
-  small : together cells ≤ largest_register
+  growth : sum cells + start ≡ m.heat_register
+  small : sum cells ≤ largest_register
 
 since_after : (start : ℕ) (m : Meter) (cells : List ℕ) (s : Sample) (i : ℕ) → Since start m cells →
     Since start (in_quarter_of m cells s i).stepped.meter (in_quarter_of m cells s i).cells
@@ -105,7 +106,7 @@ since_after start m cells s i g =
     record {
       long = as_many m cells s i ∙ g.long;
       growth = omega (arith, grown m s a.stepped h);
-      small = subst (λ (n : ℕ). n ≤ largest_register) (sym raised) (room_beside m s a.stepped (together cells) h (omega arith) g.small);
+      small = subst (λ (n : ℕ). n ≤ largest_register) (sym raised) (room_beside m s a.stepped (sum cells) h (omega arith) g.small);
     }
 
 since_along : {m z : Meter} {cells last : List ℕ} {qs : List InQuarter} (start : ℕ) → DayCalls m cells qs z last → Since start m cells → Since start z last
@@ -115,10 +116,10 @@ since_along start (call {m = m} {cells = cells} q a p rest) g =
     since_along start rest (subst (λ (x : Profiled). Since start x.stepped.meter x.cells) (sym p) after)
 
 -- from zero cells
-since_start : (m z : Meter) (qs : List InQuarter) (cells : List ℕ) → DayCalls m zero_cells qs z cells → Since m.register z cells
+since_start : (m z : Meter) (qs : List InQuarter) (cells : List ℕ) → DayCalls m zero_cells qs z cells → Since m.heat_register z cells
 since_start m z qs cells calls =
-    let nothing_yet = zeros_together quarters in
-    since_along m.register calls (record { long = length-replicate {A = ℕ} quarters 0; growth = omega arith; small = omega arith })
+    let nothing_yet = sum_zeros quarters in
+    since_along m.heat_register calls (record { long = length-replicate {A = ℕ} quarters 0; growth = omega arith; small = omega arith })
 
 pub cells_together : CellsTogether
 cells_together m z qs cells calls = (since_start m z qs cells calls).growth

@@ -24,17 +24,17 @@ record InNumbers (r n : ℕ) (a : Fraction) : Type 0 where
   fraction : 0 < a.denominator
   not_above : r * a.denominator ≤ a.numerator
   near : a.numerator ≤ (r + n) * a.denominator
-  share : 2000 * a.numerator ≤ 2000 * r * a.denominator + a.numerator
+  in_proportion : 2000 * a.numerator ≤ 2000 * r * a.denominator + a.numerator
 
 in_numbers : (r n : ℕ) (a : Fraction) → WithinBounds r n a → InNumbers r n a
 unfolding plus times
 in_numbers r n a b =
-    let l : 2000 * a.numerator * a.denominator ≤ (2000 * r * a.denominator + a.numerator) * a.denominator = omega (arith, b.share) in
+    let l : 2000 * a.numerator * a.denominator ≤ (2000 * r * a.denominator + a.numerator) * a.denominator = omega (arith, b.in_proportion) in
     record {
       fraction = b.is_fraction;
       not_above = omega (arith, b.not_above);
       near = omega (arith, b.near);
-      share = le_of_mul-le-mul_right l b.is_fraction;
+      in_proportion = le_of_mul-le-mul_right l b.is_fraction;
     }
 
 from_numbers : (r n : ℕ) (a : Fraction) → InNumbers r n a → WithinBounds r n a
@@ -43,7 +43,7 @@ from_numbers r n a b = record {
   is_fraction = b.fraction;
   not_above = omega (arith, b.not_above);
   near = omega (arith, b.near);
-  share = omega (arith, mul-le-mul_right a.denominator b.share);
+  in_proportion = omega (arith, mul-le-mul_right a.denominator b.in_proportion);
 }
 
 kept : (r n : ℕ) (a h : Fraction) (counts : Bool) → HeatBounds counts h → InNumbers r n a →
@@ -59,7 +59,7 @@ kept r n a h false w b =
       mul-le-mul_right z (div-mul-le_self h.numerator d),
       mul-le-mul_right d b.not_above,
       mul-le-mul_right d b.near,
-      mul-le-mul_right d b.share,
+      mul-le-mul_right d b.in_proportion,
     )
 kept r n a h true w b =
     let z = a.denominator in
@@ -73,7 +73,7 @@ kept r n a h true w b =
       mul-le-mul_right z (w.least refl),
       mul-le-mul_right d b.not_above,
       mul-le-mul_right d b.near,
-      mul-le-mul_right d b.share,
+      mul-le-mul_right d b.in_proportion,
     )
 
 -- such a heat, floored into the register and added to the sum, keeps the bounds

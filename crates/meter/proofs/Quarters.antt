@@ -44,10 +44,10 @@ abbrev pub heat_by : Card → Sample → Result Unit Refusal → ℕ
 heat_by c s (Ok u) = added_by Heat c s
 heat_by c s (Err n) = 0
 
-pub grown : (m : Meter) (s : Sample) (a : Stepped) → Leaves m s a → a.meter.register ≡ m.register + heat_by m.card s a.outcome
+pub grown : (m : Meter) (s : Sample) (a : Stepped) → Leaves m s a → a.meter.heat_register ≡ m.heat_register + heat_by m.card s a.outcome
 grown m s a (adds h) = refl
-grown m s a (counts n h) = sym (add-zero m.register)
-grown m s a (keeps n) = sym (add-zero m.register)
+grown m s a (counts n h) = sym (add-zero m.heat_register)
+grown m s a (keeps n) = sym (add-zero m.heat_register)
 
 -- is no more than a register can hold
 at_most : (b : Bool) (n limit : ℕ) → n ≤ limit → cond b n 0 ≤ limit
@@ -84,12 +84,12 @@ unfolding profile_rows
 only_73 cells i r e = of_some_row (λ (q : Refusal). q ≡ Profile) (profile_rows cells i) r (refl, tt) e
 
 -- no call lowers the heat register
-pub not_below : (m : Meter) (s : Sample) (a : Stepped) → a ≡ step_of m s → m.register ≤ a.meter.register
+pub not_below : (m : Meter) (s : Sample) (a : Stepped) → a ≡ step_of m s → m.heat_register ≤ a.meter.heat_register
 not_below m s a f = omega (arith, grown m s a (subst (Leaves m s) (sym f) (step_leaves m s)))
 
 -- so what it grows by fits beside what stands in a cell
 pub fits : (m : Meter) (cells : List ℕ) (s : Sample) (i : ℕ) (a : Stepped) → length cells ≡ quarters → Admitted cells i → a ≡ step_of m s →
-    cell_at cells i + (a.meter.register - m.register) ≤ 2 * largest_register
+    cell_at cells i + (a.meter.heat_register - m.heat_register) ≤ 2 * largest_register
 fits m cells s i a long p f =
     let h = subst (Leaves m s) (sym f) (step_leaves m s) in
     let apart = grown m s a h in
@@ -99,11 +99,11 @@ fits m cells s i a long p f =
 
 -- and the answer, with the cell raised by it, is that of the definition
 pub answer_is : (m : Meter) (cells : List ℕ) (s : Sample) (i : ℕ) (a : Stepped) → a ≡ step_of m s →
-    record { stepped = a; cells = raised_at cells i (a.meter.register - m.register) } ≡ by_profile m cells s i (Ok tt)
+    record { stepped = a; cells = raised_at cells i (a.meter.heat_register - m.heat_register) } ≡ by_profile m cells s i (Ok tt)
 answer_is m cells s i a f =
     let h = subst (Leaves m s) (sym f) (step_leaves m s) in
     let apart = grown m s a h in
-    let is : a.meter.register - m.register ≡ heat_by m.card s a.outcome = omega arith in
+    let is : a.meter.heat_register - m.heat_register ≡ heat_by m.card s a.outcome = omega arith in
     ap (λ (l : List ℕ). record { stepped = a; cells = l }) (ap (raised_at cells i) is ∙ sym (cells_raised m.card cells s i a.outcome))
     ∙ ap (λ (b : Stepped). record { stepped = b; cells = cells_after m.card cells s i b.outcome }) f
 

@@ -8,7 +8,7 @@ use Rattle.std.specs.Result.{result_and}
 use Rattle.quantity.proofs.Rows.{none_applies, none_of_parts, parts}
 use Rattle.meter.specs.Card.{card_rows}
 use Rattle.meter.specs.State.{state_rows}
-use Rattle.quantity.specs.declared.range.Position.TheVariants.{Supply, Return}
+use Rattle.quantity.specs.declared.range.Role.TheVariants.{Supply, Return}
 use Rattle.platinum.specs.Refusal.{end_rows}
 use Rattle.meter.specs.Sample.{supply_of, return_of}
 use Rattle.meter.specs.Step.{count_rows, reading_rows, range_rows, limit_rows, sample_rows, card_and_state_rows}
@@ -35,9 +35,9 @@ pub counts_and_readings : (c : Card) (s : Sample) →
     first_of (count_rows c s ++ reading_rows c s) ≡ result_and (first_of (count_rows c s)) (result_and (first_of (end_rows Supply (supply_of c s))) (first_of (end_rows Return (return_of c s))))
 unfolding reading_rows
 counts_and_readings c s =
-    let supply = end_rows Supply (supply_of c s) in
-    let returned = end_rows Return (return_of c s) in
-    parts (count_rows c s) (supply ++ returned) ∙ ap (result_and (first_of (count_rows c s))) (parts supply returned)
+    let supply_rows = end_rows Supply (supply_of c s) in
+    let return_rows = end_rows Return (return_of c s) in
+    parts (count_rows c s) (supply_rows ++ return_rows) ∙ ap (result_and (first_of (count_rows c s))) (parts supply_rows return_rows)
 
 -- and all rows of a sample
 pub by_stages : (m : Meter) (s : Sample) →

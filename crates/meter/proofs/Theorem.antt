@@ -10,6 +10,7 @@ use lib.Dec.{ltb}
 use borrow.Author.Tests.{ltb-true, ltb-false}
 use Rattle.quantity.specs.Refusals.{refusal_number, row, first_of, first_number}
 use Rattle.std.specs.Prelude.{Result, Ok, Err}
+use Rattle.std.specs.Result.{result_and}
 use Rattle.quantity.specs.declared.refusal.Refusal.{Refusal}
 use Rattle.quantity.specs.declared.refusal.Refusal.TheVariants as R
 use Rattle.quantity.proofs.Rows.{first_number_lem, none_applies, no_refusal, none_of_parts, none_together}
@@ -23,7 +24,7 @@ use Rattle.water.proofs.Bounds.{water_bounded}
 use Rattle.water.proofs.ExactHeats.{heat_is_fraction, no_volume_no_heat, at_least_2000, of_either_order}
 use Rattle.meter.specs.Edition.{is_other_edition}
 use Rattle.meter.specs.Card.{card_rows}
-use Rattle.meter.specs.State.{fresh_rows, fresh_of, fresh_answer, zeros}
+use Rattle.meter.specs.State.{fresh_rows, fresh_of, zeros}
 use Rattle.meter.specs.Sample.{volume_of, has_volume, ts, tr, sample_heat}
 use Rattle.meter.specs.Register.{register_of, own_register, is_same}
 use Rattle.meter.specs.Step.{added_by, accepting}
@@ -123,7 +124,7 @@ pub edition_along : (m : Meter) (ks : List Mark) (z : Meter) → Calls m ks z �
 edition_along m = by_askings m (λ (ks : List Mark) (z : Meter). z.edition ≡ m.edition) (λ qs. (stays_along m qs).edition)
 
 -- only the outcome of no refusal makes a meter
-by_rows : (x m : Meter) (o : Result Unit Refusal) → fresh_answer o x ≡ Ok m → (o ≡ Ok tt) × (x ≡ m)
+by_rows : (x m : Meter) (o : Result Unit Refusal) → result_and o (Ok x) ≡ Ok m → (o ≡ Ok tt) × (x ≡ m)
 by_rows x m (Ok u) e = (refl, cc)
 by_rows x m (Err n) e = absurd cc
 
@@ -140,7 +141,7 @@ pub fresh_made : (c : Card) (e : ℕ) → first_of (card_rows c) ≡ Ok tt → i
 unfolding fresh_of
 fresh_made c e h known =
     let none_refuses = none_together (card_rows c) (row R.State (is_other_edition e) ∷ []) (none_applies (card_rows c) h) (known, tt) in
-    ap (λ (o : Result Unit Refusal). fresh_answer o (zeros c e)) (no_refusal (fresh_rows c e) none_refuses)
+    ap (λ (o : Result Unit Refusal). result_and o (Ok (zeros c e))) (no_refusal (fresh_rows c e) none_refuses)
 
 pub fresh_exactly : (c : Card) (e : ℕ) (x : Result Meter Refusal) → x ≡ fresh_of c e → FreshExactly c e x
 fresh_exactly c e x same m = (
@@ -153,7 +154,7 @@ pub fresh_number : (c : Card) (e : ℕ) (x : Result Meter Refusal) → x ≡ fre
 unfolding fresh_of refusal_number
 fresh_number c e x same = ap refusal_number same ∙ by (first_of (fresh_rows c e)) ∙ first_number_lem (fresh_rows c e)
   where
-    by : (o : Result Unit Refusal) → refusal_number (fresh_answer o (zeros c e)) ≡ refusal_number o
+    by : (o : Result Unit Refusal) → refusal_number (result_and o (Ok (zeros c e))) ≡ refusal_number o
     by (Ok u) = refl
     by (Err r) = refl
 

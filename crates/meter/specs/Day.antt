@@ -1,6 +1,6 @@
 -- The calls of a day, document 02, request 7: "every list of such calls from zero cells and any meter, each given the meter and cells that the
 -- one before it returned, with nothing else writing them".
-use Rattle.std.specs.Prelude.{ℕ, ◌+◌, ◌≡◌, List, [], ◌∷◌}
+use Rattle.std.specs.Prelude.{ℕ, ◌≡◌, List, [], ◌∷◌}
 use Rattle.meter.specs.Profile.{in_quarter_of}
 use Rattle.meter.specs.Run.{Asking, asks_in_quarter}
 use Rattle.meter.specs.declared.profile.Profiled.{Profiled}
@@ -29,8 +29,3 @@ day_asked m cells [] = []
 day_asked m cells (q ∷ qs) =
     let a = in_quarter_of m cells q.sample q.index in
     asks_in_quarter cells q.sample q.index ∷ day_asked a.stepped.meter a.cells qs
-
--- "the cells together"
-abbrev pub together : List ℕ → ℕ
-together [] = 0
-together (cell ∷ cells) = cell + together cells

@@ -12,12 +12,12 @@ use Rattle.meter.specs.declared.state.Meter.{Meter}
 
 -- what stands in a register, in mJ
 abbrev pub register_of : Register → Meter → ℕ
-register_of Heat m = m.register
+register_of Heat m = m.heat_register
 register_of Cold m = m.cold_register
 
 -- "An accepted sample is the cold register's own when its supply temperature is below its return temperature, and otherwise the heat register's."
 abbrev pub register_by : Temperature → Temperature → Register
-register_by supply returned = cond (is_colder supply returned) Cold Heat
+register_by supply_temperature return_temperature = cond (is_colder supply_temperature return_temperature) Cold Heat
 
 abbrev pub own_register : Card → Sample → Register
 own_register c s = register_by (ts c s) (tr c s)

@@ -12,8 +12,8 @@ use Rattle.meter.specs.declared.card.Card.{Card}
 use Rattle.meter.specs.declared.sample.Sample.{Sample}
 
 -- "A sample is pulses, seconds, supply reading, return reading."
-unfoldable pub fields_of : Sample → List ℕ
-fields_of s = s.pulses ∷ s.seconds ∷ s.supply_reading ∷ s.return_reading ∷ []
+unfoldable pub sample_numbers : Sample → List ℕ
+sample_numbers s = s.pulses ∷ s.seconds ∷ s.supply_reading ∷ s.return_reading ∷ []
 
 -- how many they are
 abbrev pub sample_fields : ℕ

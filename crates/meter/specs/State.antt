@@ -1,6 +1,7 @@
 -- The meter's state, document 01, "Card", and the row "State" of the refusal table, with its edition and its kept seconds (document 02,
 -- request 2), and its cold register (request 5).
 use Rattle.std.specs.Prelude.{ℕ, ◌+◌, ◌-◌, ◌*◌, ◌^◌, List, [], ◌∷◌, ◌++◌, Bool, not, ◌&&◌, ◌||◌, ltb, eqb, Result, Ok, Err}
+use Rattle.std.specs.Result.{result_and}
 use Rattle.quantity.specs.Refusals.{row, first_of}
 use Rattle.quantity.specs.declared.refusal.Refusal.{Refusal}
 use Rattle.quantity.specs.declared.refusal.Refusal.TheVariants as R
@@ -13,11 +14,7 @@ use Rattle.meter.specs.declared.state.Meter.{Meter}
 -- "A fresh meter has an accepted card and zeros in heat register (mJ), volume (mL), accepted count and refused count." Its kept seconds, of
 -- accepted samples above q_s, and its cold register are zero too.
 abbrev pub zeros : Card → ℕ → Meter
-zeros c e = record { card = c; edition = e; register = 0; volume = 0; accepted = 0; refused = 0; kept_seconds = 0; cold_register = 0 }
-
-abbrev pub fresh_answer : Result Unit Refusal → Meter → Result Meter Refusal
-fresh_answer (Err r) m = Err r
-fresh_answer (Ok u) m = Ok m
+zeros c e = record { card = c; edition = e; heat_register = 0; volume = 0; accepted = 0; refused = 0; kept_seconds = 0; cold_register = 0 }
 
 -- the card's rows, then "A fresh meter [..] of another edition [..] is met by 20"
 abbrev pub fresh_rows : Card → ℕ → List Row
@@ -25,7 +22,7 @@ fresh_rows c e = card_rows c ++ (row R.State (is_other_edition e) ∷ [])
 
 -- the fresh meter of a card in an edition, or the first row's refusal
 unfoldable pub fresh_of : Card → ℕ → Result Meter Refusal
-fresh_of c e = fresh_answer (first_of (fresh_rows c e)) (zeros c e)
+fresh_of c e = result_and (first_of (fresh_rows c e)) (Ok (zeros c e))
 
 -- the limits of 20 and 21
 abbrev pub largest_register : ℕ
@@ -41,7 +38,7 @@ largest_count = 10 ^ 12
 -- "20 and 41 apply their heat limit to it as well". The two counts are count together.
 abbrev pub passes_limit_by : Meter → ℕ → Bool
 passes_limit_by m count =
-    ltb largest_register m.register || ltb largest_register m.cold_register || ltb largest_volume m.volume || ltb largest_count count
+    ltb largest_register m.heat_register || ltb largest_register m.cold_register || ltb largest_volume m.volume || ltb largest_count count
 
 abbrev pub passes_limit : Meter → Bool
 passes_limit m = passes_limit_by m (m.accepted + m.refused)

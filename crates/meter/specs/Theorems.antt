@@ -1,6 +1,7 @@
 -- What is proved of the meter, statement by statement. Each has the name of the clause that promises it and of the lemma in proofs/ that proves it:
 -- first what is true of one answer, which its function promises, then what is true of whole lists of calls, which src/laws.rt promises.
 use Rattle.std.specs.Prelude.{◌≡◌, List, [], ◌∷◌, map, true, false, cond, ◌||◌, ◌↔◌, ◌⊎◌, ℕ, ◌+◌, ◌*◌, ◌≤◌, ◌<◌, eqb, Result, Ok}
+use Rattle.std.specs.List.{sum}
 use Rattle.quantity.specs.Fractions.{floored}
 use Rattle.quantity.specs.Units.{is_colder}
 use Rattle.quantity.specs.Refusals.{refusal_number, first_of, NoneApplies}
@@ -13,7 +14,7 @@ use Rattle.meter.specs.Sample.{volume_of, supply_of, return_of, ts, tr, sample_h
 use Rattle.meter.specs.Register.{register_of, own_register}
 use Rattle.meter.specs.Step.{kept_of, step_of}
 use Rattle.meter.specs.Profile.{zero_cells, profile_rows, cell_at, in_quarter_of}
-use Rattle.meter.specs.Day.{InQuarter, DayCalls, day_of, day_asked, together}
+use Rattle.meter.specs.Day.{InQuarter, DayCalls, day_of, day_asked}
 use Rattle.meter.specs.Sum.{Mark, is_own, nothing, sum_of, allowance_of, WithinBounds}
 use Rattle.meter.specs.Calls.{Calls, is_accepted}
 use Rattle.meter.specs.Run.{Asking, sample_asked, answer_of, marks_asked, last_asked, asked_of}
@@ -43,8 +44,8 @@ AcceptedExactly m s answer = (is_accepted answer.outcome ≡ true) ↔ NoRowRefu
 
 -- Both readings of an accepted sample have a temperature, so that none with the default of a missing one enters a sum.
 pub record HasTemperatures (c : Card) (s : Sample) : Type 0 where
-  pub supply : (t : Temperature) × (supply_of c s ≡ Ok t)
-  pub returned : (t : Temperature) × (return_of c s ≡ Ok t)
+  pub of_supply : (t : Temperature) × (supply_of c s ≡ Ok t)
+  pub of_return : (t : Temperature) × (return_of c s ≡ Ok t)
 
 abbrev pub AcceptedHasTemperatures : Card → Sample → Stepped → Type 0
 AcceptedHasTemperatures c s answer = is_accepted answer.outcome ≡ true → HasTemperatures c s
@@ -62,7 +63,7 @@ abbrev pub CellAsRegister : Meter → List ℕ → Sample → ℕ → Profiled �
 CellAsRegister m cells s i answer =
     let heat = floored (sample_heat m.card s) in
     is_accepted answer.stepped.outcome ≡ true → own_register m.card s ≡ Heat →
-    (cell_at answer.cells i ≡ cell_at cells i + heat) × (answer.stepped.meter.register ≡ m.register + heat)
+    (cell_at answer.cells i ≡ cell_at cells i + heat) × (answer.stepped.meter.heat_register ≡ m.heat_register + heat)
 
 -- ---- lists of calls from a fresh meter
 
@@ -186,7 +187,7 @@ abbrev pub under_edition : ℕ → ℕ → Meter → Meter
 under_edition e cold m = record {
   card = m.card;
   edition = e;
-  register = m.register;
+  heat_register = m.heat_register;
   volume = m.volume;
   accepted = m.accepted;
   refused = m.refused;
@@ -214,7 +215,7 @@ HeatAsInEdition2 =
 -- From zero cells and any meter, each call being given the meter and the cells that the one before it returned, the cells together are what the heat
 -- register grew by: they and what it held at the start are what it holds at the end.
 abbrev pub CellsTogether : Type 0
-CellsTogether = (m z : Meter) (qs : List InQuarter) (cells : List ℕ) → DayCalls m zero_cells qs z cells → together cells + m.register ≡ z.register
+CellsTogether = (m z : Meter) (qs : List InQuarter) (cells : List ℕ) → DayCalls m zero_cells qs z cells → sum cells + m.heat_register ≡ z.heat_register
 
 -- No cell passes the register's limit along such calls,
 abbrev pub CellsWithinLimit : Type 0

@@ -28,7 +28,7 @@ fn made(card: Card, edition: u64) -> Result<Meter, Refusal>
     Ok(Meter {
         card,
         edition,
-        register: 0,
+        heat_register: 0,
         volume: 0,
         accepted: 0,
         refused: 0,

@@ -44,7 +44,7 @@ impl Measurement {
         };
         match self.own_register() {
             Register::Heat => Meter {
-                register: m.register + heat,
+                heat_register: m.heat_register + heat,
                 ..m
             },
             Register::Cold => Meter {

@@ -14,7 +14,7 @@ use crate::card::Card;
 use crate::register::Register;
 use crate::sample::Sample;
 use crate::usable::Usable;
-use quantity::{Position, Refusal, Temperature};
+use quantity::{Refusal, Role, Temperature};
 
 // A sample of a meter, with its volume and its two temperatures. No row of its counts refuses it, so that its numbers are small and their
 // products fit.
@@ -23,12 +23,12 @@ pub(crate) struct Measurement {
     pub(crate) usable: Usable,
     pub(crate) sample: Sample,
     pub(crate) volume: u64,
-    pub(crate) supply: Temperature,
-    pub(crate) returned: Temperature,
+    pub(crate) supply_temperature: Temperature,
+    pub(crate) return_temperature: Temperature,
     ghost count_bounds: { AcceptedCounts usable.meter.card sample },
     ghost volume_is: { volume ≡ volume_of usable.meter.card sample },
-    ghost supply_is: { supply ≡ ts usable.meter.card sample },
-    ghost returned_is: { returned ≡ tr usable.meter.card sample },
+    ghost supply_is: { supply_temperature ≡ ts usable.meter.card sample },
+    ghost return_is: { return_temperature ≡ tr usable.meter.card sample },
 }
 
 impl Measurement {
@@ -40,14 +40,14 @@ impl Measurement {
     {
         let card = usable.meter.card;
         sample.count_refusal(card)?;
-        let supply = temperature(Position::Supply, card, sample.supply_reading)?;
-        let returned = temperature(Position::Return, card, sample.return_reading)?;
+        let supply_temperature = temperature(Role::Supply, card, sample.supply_reading)?;
+        let return_temperature = temperature(Role::Return, card, sample.return_reading)?;
         Ok(Measurement {
             usable,
             sample,
             volume: sample.pulses * card.ml_per_pulse,
-            supply,
-            returned,
+            supply_temperature,
+            return_temperature,
         })
     }
 
@@ -75,7 +75,7 @@ impl Measurement {
     pub(crate) fn own_register(self) -> Register
         ensures { result ≡ own_register self.usable.meter.card self.sample }
     {
-        Register::by(self.supply, self.returned)
+        Register::by(self.supply_temperature, self.return_temperature)
     }
 
     // The floored heat or cold in mJ. Of such a sample the water's operation refuses nothing.
@@ -85,8 +85,8 @@ impl Measurement {
     {
         water::heat(
             self.volume,
-            self.supply,
-            self.returned,
+            self.supply_temperature,
+            self.return_temperature,
             self.usable.meter.card.place,
         )
     }
@@ -94,9 +94,9 @@ impl Measurement {
 
 // The temperature of a reading, or the refusal of one that has none.
 #[tactic(auto, unfolding(quantity::specs::Refusals::first_of))]
-fn temperature(position: Position, card: Card, reading: u64) -> Result<Temperature, Refusal>
-    ensures rows { result_and result (Ok tt) ≡ first_of (end_rows position (temperature_of card.sensor reading)) }
+fn temperature(role: Role, card: Card, reading: u64) -> Result<Temperature, Refusal>
+    ensures rows { result_and result (Ok tt) ≡ first_of (end_rows role (temperature_of card.sensor reading)) }
     ensures value { IfOk result (λ t. t ≡ temperature_or_missing (temperature_of card.sensor reading)) }
 {
-    platinum::temperature(card.sensor, reading).map_err(|u| u.end_refusal(position))
+    platinum::temperature(card.sensor, reading).map_err(|u| u.reading_refusal(role))
 }

@@ -87,7 +87,7 @@ impl Quarter {
     {
         let stepped = step(m, s);
         let mut cells = self.cells;
-        cells[self.index] += stepped.meter.register - m.register;
+        cells[self.index] += stepped.meter.heat_register - m.heat_register;
         Profiled { stepped, cells }
     }
 }

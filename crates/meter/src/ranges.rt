@@ -15,13 +15,15 @@ impl Measurement {
         ensures { result ≡ first_of (range_rows self.usable.meter.edition self.usable.meter.card self.sample) }
     {
         let m = self.usable.meter;
-        let difference = self.supply.distance(self.returned);
+        let difference = self.supply_temperature.distance(self.return_temperature);
         let least = Difference::whole(m.card.delta_min as u32);
         let largest = Difference::whole(m.card.delta_max as u32);
         first_refusal(&[
-            Refusal::SupplyOutsideTheta.when(self.is_outside_theta(self.supply)),
-            Refusal::ReturnOutsideTheta.when(self.is_outside_theta(self.returned)),
-            Refusal::SupplyBelowReturn.when(!counts_cold(m.edition) && self.supply < self.returned),
+            Refusal::SupplyOutsideTheta.when(self.is_outside_theta(self.supply_temperature)),
+            Refusal::ReturnOutsideTheta.when(self.is_outside_theta(self.return_temperature)),
+            Refusal::SupplyBelowReturn.when(
+                !counts_cold(m.edition) && self.supply_temperature < self.return_temperature,
+            ),
             Refusal::DifferenceTooSmall.when(difference < least),
             Refusal::DifferenceTooLarge.when(largest < difference),
             Refusal::FlowAboveQs.when(!keeps_seconds(m.edition) && self.is_above_qs()),

@@ -14,10 +14,10 @@ pub enum Register {
 
 impl Register {
     // The register whose own a sample of these two temperatures is.
-    pub(crate) fn by(supply: Temperature, returned: Temperature) -> Register
-        ensures { result ≡ register_by supply returned }
+    pub(crate) fn by(supply_temperature: Temperature, return_temperature: Temperature) -> Register
+        ensures { result ≡ register_by supply_temperature return_temperature }
     {
-        if supply < returned {
+        if supply_temperature < return_temperature {
             Register::Cold
         } else {
             Register::Heat
@@ -31,7 +31,7 @@ impl Meter {
         ensures { result ≡ register_of register self }
     {
         match register {
-            Register::Heat => self.register,
+            Register::Heat => self.heat_register,
             Register::Cold => self.cold_register,
         }
     }

@@ -1,7 +1,7 @@
 // A sample, and the rows that refuse it by its counts alone (document 01, "Meter's step" and the row "Sample").
 ghost use Rattle.std.specs.Prelude.{◌≡◌};
 ghost use Rattle.quantity.specs.Refusals.{first_of};
-ghost use Rattle.meter.specs.Sample.{fields_of};
+ghost use Rattle.meter.specs.Sample.{sample_numbers};
 ghost use Rattle.meter.specs.Step.{count_rows};
 
 use crate::card::Card;
@@ -25,7 +25,7 @@ pub struct Sample {
 
 /// The sample of four numbers.
 impl From<[u64; SAMPLE_FIELDS]> for Sample {
-    ghost from_gives = { λ f s. fields_of s ≡ f };
+    ghost from_gives = { λ f s. sample_numbers s ≡ f };
 
     fn from(f: [u64; SAMPLE_FIELDS]) -> Sample {
         let [pulses, seconds, supply_reading, return_reading] = f;
@@ -40,9 +40,9 @@ impl From<[u64; SAMPLE_FIELDS]> for Sample {
 
 /// And a sample's four numbers.
 impl From<Sample> for [u64; SAMPLE_FIELDS] {
-    ghost from_gives = { λ s f. f ≡ fields_of s };
+    ghost from_gives = { λ s f. f ≡ sample_numbers s };
 
-    #[tactic(auto, unfolding(crate::specs::Sample::fields_of))]
+    #[tactic(auto, unfolding(crate::specs::Sample::sample_numbers))]
     fn from(s: Sample) -> [u64; SAMPLE_FIELDS] {
         [s.pulses, s.seconds, s.supply_reading, s.return_reading]
     }

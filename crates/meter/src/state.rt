@@ -25,7 +25,7 @@ pub(crate) const MOST_SECONDS: u64 = 3600;
 pub struct Meter {
     pub card: Card,
     pub edition: u64,
-    pub register: u64,
+    pub heat_register: u64,
     pub volume: u64,
     pub accepted: u64,
     pub refused: u64,
@@ -64,7 +64,7 @@ impl Meter {
     fn passes_a_limit(self, count: u64) -> bool
         ensures { result ≡ passes_limit_by self count }
     {
-        LARGEST_REGISTER < self.register
+        LARGEST_REGISTER < self.heat_register
             || LARGEST_REGISTER < self.cold_register
             || LARGEST_VOLUME < self.volume
             || LARGEST_COUNT < count

@@ -15,8 +15,8 @@ use Rattle.quantity.proofs.Largest.{bounded, holds, at_least}
 use Rattle.quantity.proofs.Rows.{first_number_lem}
 use Rattle.quantity.specs.declared.units.Temperature.{Temperature}
 use Rattle.quantity.specs.declared.refusal.Refusal.TheVariants.{SensorKind}
-use Rattle.quantity.specs.declared.range.Position.{Position}
-use Rattle.quantity.specs.declared.range.Position.TheVariants.{Alone}
+use Rattle.quantity.specs.declared.range.Role.{Role}
+use Rattle.quantity.specs.declared.range.Role.TheVariants.{Alone}
 use Rattle.quantity.specs.declared.range.End.TheVariants.{Low, High}
 use Rattle.platinum.specs.Sensor.{sensor_of, is_unknown}
 use Rattle.quantity.specs.Units.{last_hundredth}
@@ -89,17 +89,17 @@ larger_reading n r r' s t h e f =
     b.2.largest_one s.0 a.2.in_range (omega (arith, a.2.reached))
 
 -- the rows say what an answer's refusal is
-abbrev RowsSay : Position → Result Temperature Unmeasured → Bool → Type 0
+abbrev RowsSay : Role → Result Temperature Unmeasured → Bool → Type 0
 RowsSay p m unknown = refusal_of p m ≡ first_of (row SensorKind unknown ∷ end_rows p m)
 
-kind_rows : (p : Position) (low high : Bool) (t : Temperature) → RowsSay p (cond low (Err (Outside Low)) (cond high (Err (Outside High)) (Ok t))) false
+kind_rows : (p : Role) (low high : Bool) (t : Temperature) → RowsSay p (cond low (Err (Outside Low)) (cond high (Err (Outside High)) (Ok t))) false
 unfolding refusal_of unmeasured_refusal first_of
 kind_rows p true high t = refl
 kind_rows p false true t = refl
 kind_rows p false false t = refl
 
 -- the refusal of an answer is that of the first row that applies
-of_field : (p : Position) (n r : ℕ) (k : Result Sensor Unmeasured) → Named k n → RowsSay p (of_kind k r) (is_unknown k)
+of_field : (p : Role) (n r : ℕ) (k : Result Sensor Unmeasured) → Named k n → RowsSay p (of_kind k r) (is_unknown k)
 unfolding refusal_of unmeasured_refusal first_of of_resistance
 of_field p n r (Ok s) h = kind_rows p _ _ _
 of_field p n r (Err u) h = rw h.0 refl

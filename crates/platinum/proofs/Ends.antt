@@ -9,10 +9,10 @@ use lib.Dec.{ltb}
 use borrow.Author.Tests.{ltb-true, ltb-false}
 use Rattle.std.specs.Prelude.{Result, Ok, Err}
 use Rattle.quantity.specs.Refusals.{number_of, first_of, first_number}
-use Rattle.quantity.specs.Range.{end_refusal}
+use Rattle.quantity.specs.Range.{refusal_at_end}
 use Rattle.quantity.specs.Units.{last_hundredth}
 use Rattle.quantity.specs.declared.units.Temperature.{Temperature}
-use Rattle.quantity.specs.declared.range.Position.{Position}
+use Rattle.quantity.specs.declared.range.Role.{Role}
 use Rattle.quantity.specs.declared.range.End.{End}
 use Rattle.quantity.specs.declared.range.End.TheVariants.{Low, High}
 use Rattle.platinum.specs.Sensor.{IsResistance, sensor_of}
@@ -26,13 +26,13 @@ use Rattle.platinum.proofs.Growth.{grows_or_stays}
 use Rattle.platinum.proofs.SensorKinds.{Named, named}
 
 -- the refusal of a missed end is that of the first row that applies
-pub outside_refusal : (p : Position) (e : End) → Err (end_refusal p e) ≡ first_of (end_rows p (Err (Outside e)))
+pub outside_refusal : (p : Role) (e : End) → Err (refusal_at_end p e) ≡ first_of (end_rows p (Err (Outside e)))
 unfolding first_of
 outside_refusal p Low = refl
 outside_refusal p High = refl
 
 -- and its number is theirs
-pub outside_number : (p : Position) (e : End) → number_of (end_refusal p e) ≡ first_number (end_rows p (Err (Outside e)))
+pub outside_number : (p : Role) (e : End) → number_of (refusal_at_end p e) ≡ first_number (end_rows p (Err (Outside e)))
 unfolding first_number
 outside_number p Low = refl
 outside_number p High = refl

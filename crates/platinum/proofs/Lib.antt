@@ -6,5 +6,5 @@ pub mod SensorKinds
 pub mod Line
 pub mod Near
 pub mod Resistances
-pub mod Shares
+pub mod Ratios
 pub mod Start

@@ -1,4 +1,4 @@
--- Where the search begins, at the line's point, and where its first two tries lead: to the temperature of the share or one hundredth above it.
+-- Where the search begins, at the line's point, and where its first two tries lead: to the temperature of the ratio or one hundredth above it.
 -- Assumes nothing.
 use Prim.Native.Nat.{ℕ, suc, ◌+◌, ◌-◌, ◌≤◌, ◌<◌}
 use native.Mathlib.Nat.{le_refl}
@@ -6,23 +6,23 @@ use native.Mathlib.Omega.{arith}
 use Rattle.quantity.specs.Units.{last_hundredth}
 use Rattle.platinum.specs.Temperature.{W}
 use Rattle.platinum.specs.Line.{line_at, above_line, BetweenEnds, line_point, next_from}
-use Rattle.platinum.proofs.Shares.{answer_of, answer_bounded, answer_reached, answer_largest}
+use Rattle.platinum.proofs.Ratios.{answer_of, answer_bounded, answer_reached, answer_largest}
 use Rattle.platinum.proofs.Line.{curve_above_line, below_line, most_change, rises, falls, falls_less, differs_little, most}
 
--- what the line tells of a share and its temperature t
-record ByLine (share t : ℕ) : Type 0 where
+-- what the line tells of a ratio and its temperature t
+record ByLine (ratio t : ℕ) : Type 0 where
   in_range : t ≤ last_hundredth
-  to_end : share ≤ line_at last_hundredth
-  from : line_at t + above_line t ≤ share
-  to : share < line_at (suc t) + above_line t + most_change
+  to_end : ratio ≤ line_at last_hundredth
+  from : line_at t + above_line t ≤ ratio
+  to : ratio < line_at (suc t) + above_line t + most_change
 
--- p is the line's point for the share less `off`
-record Point (share off p : ℕ) : Type 0 where
-  from : line_at p + off ≤ share
-  to : share < line_at (suc p) + off
+-- p is the line's point for the ratio less `off`
+record Point (ratio off p : ℕ) : Type 0 where
+  from : line_at p + off ≤ ratio
+  to : ratio < line_at (suc p) + off
 
 -- l is the line's point
-module _ (share t : ℕ) (m : ByLine share t) (l : ℕ) (x : Point share 0 l) where
+module _ (ratio t : ℕ) (m : ByLine ratio t) (l : ℕ) (x : Point ratio 0 l) where
   line_from : t ≤ l
   line_from = omega (arith, m.from, x.to)
 
@@ -33,7 +33,7 @@ module _ (share t : ℕ) (m : ByLine share t) (l : ℕ) (x : Point share 0 l) wh
   line_end = omega (arith, m.to_end, x.from)
 
   -- f is the next from it
-  module _ (f : ℕ) (y : Point share (above_line l) f) where
+  module _ (f : ℕ) (y : Point ratio (above_line l) f) where
     nearer_below : f ≤ l
     nearer_below = omega (arith, y.from, x.to)
 
@@ -46,14 +46,14 @@ module _ (share t : ℕ) (m : ByLine share t) (l : ℕ) (x : Point share 0 l) wh
     nearer_to : f ≤ t + 4
     nearer_to = omega (arith, m.to, y.from, differs_little t l 124 m.in_range line_end (omega (arith, line_from)) line_to)
 
-    -- Even if the curve lay above the line at t by as much as it does at f, the share would reach it. For where f is no nearer to the middle
+    -- Even if the curve lay above the line at t by as much as it does at f, the ratio would reach it. For where f is no nearer to the middle
     -- than t, that is no more than at t; otherwise, past the middle, f is t itself, since at l the curve lies above the line by no more than at t;
     -- and before it, f lies above t, and from f to l the curve nears the line by less than the line rises in a hundredth.
-    reached : line_at t + above_line f ≤ share
+    reached : line_at t + above_line f ≤ ratio
     reached = grind (arith, m.from, y.from, y.to, rises f t, falls t f, falls t l, falls_less f l, line_from, line_to, line_end, nearer_below, nearer_end, m.in_range)
 
     -- s is the next from that
-    module _ (s : ℕ) (z : Point share (above_line f) s) where
+    module _ (s : ℕ) (z : Point ratio (above_line f) s) where
       nearest_from : t ≤ s
       nearest_from = omega (arith, reached, z.to)
 
@@ -63,68 +63,68 @@ module _ (share t : ℕ) (m : ByLine share t) (l : ℕ) (x : Point share 0 l) wh
       nearest_end : s ≤ last_hundredth
       nearest_end = omega (arith, z.from, x.to, line_end)
 
-point : (share off : ℕ) → W 0 + off ≤ share → Point share off (line_point (share - off))
+point : (ratio off : ℕ) → W 0 + off ≤ ratio → Point ratio off (line_point (ratio - off))
 unfolding line_point
-point share off h = record { from = omega arith; to = omega arith }
+point ratio off h = record { from = omega arith; to = omega arith }
 
-below_end : (share : ℕ) → BetweenEnds share → share ≤ line_at last_hundredth
-below_end share h = omega (arith, h.1, curve_above_line last_hundredth (omega arith))
+below_end : (ratio : ℕ) → BetweenEnds ratio → ratio ≤ line_at last_hundredth
+below_end ratio h = omega (arith, h.1, curve_above_line last_hundredth (omega arith))
 
 -- the line's point is a temperature of the range
-pub line_point_in_range : (share : ℕ) → BetweenEnds share → line_point share ≤ last_hundredth
+pub line_point_in_range : (ratio : ℕ) → BetweenEnds ratio → line_point ratio ≤ last_hundredth
 unfolding line_point
-line_point_in_range share h = omega (arith, below_end share h)
+line_point_in_range ratio h = omega (arith, below_end ratio h)
 
--- the amount by which the curve lies above the line at a t up to it can be taken off the share and leaves W(0) at least
-pub fits : (share t : ℕ) → BetweenEnds share → t ≤ line_point share → W 0 + above_line t ≤ share
+-- the amount by which the curve lies above the line at a t up to it can be taken off the ratio and leaves W(0) at least
+pub fits : (ratio t : ℕ) → BetweenEnds ratio → t ≤ line_point ratio → W 0 + above_line t ≤ ratio
 unfolding line_point
-fits share t h l = omega (arith, below_line t (omega (arith, line_point_in_range share h)))
+fits ratio t h l = omega (arith, below_line t (omega (arith, line_point_in_range ratio h)))
 
-module _ (share : ℕ) (h : BetweenEnds share) where
+module _ (ratio : ℕ) (h : BetweenEnds ratio) where
   abbrev t : ℕ
-  t = answer_of share
+  t = answer_of ratio
 
-  by_line_lem : ByLine share t
+  by_line_lem : ByLine ratio t
   by_line_lem = record {
-    in_range = answer_bounded share;
-    to_end = below_end share h;
-    from = omega (arith, answer_reached share h.0, curve_above_line t (answer_bounded share));
-    to = grind (arith, below_end share h, answer_bounded share, answer_largest share (suc t), curve_above_line (suc t), differs_little (suc t) t 1);
+    in_range = answer_bounded ratio;
+    to_end = below_end ratio h;
+    from = omega (arith, answer_reached ratio h.0, curve_above_line t (answer_bounded ratio));
+    to = grind (arith, below_end ratio h, answer_bounded ratio, answer_largest ratio (suc t), curve_above_line (suc t), differs_little (suc t) t 1);
   }
 
   abbrev l : ℕ
-  l = line_point share
+  l = line_point ratio
 
-  line : Point share 0 l
+  line : Point ratio 0 l
   unfolding line_point
   line = record { from = omega (arith, h.0); to = omega (arith, h.0) }
 
   abbrev f : ℕ
-  f = next_from share l
+  f = next_from ratio l
 
-  nearer : Point share (above_line l) f
+  nearer : Point ratio (above_line l) f
   unfolding next_from
-  nearer = point share (above_line l) (fits share l h (le_refl _))
+  nearer = point ratio (above_line l) (fits ratio l h (le_refl _))
 
   f_below : f ≤ l
-  f_below = nearer_below share t by_line_lem l line f nearer
+  f_below = nearer_below ratio t by_line_lem l line f nearer
 
   abbrev s : ℕ
-  s = next_from share f
+  s = next_from ratio f
 
-  nearest : Point share (above_line f) s
+  nearest : Point ratio (above_line f) s
   unfolding next_from
-  nearest = point share (above_line f) (fits share f h f_below)
+  nearest = point ratio (above_line f) (fits ratio f h f_below)
 
   pub line_bounds : (l ≤ t + 124) × (t ≤ l) × (l ≤ last_hundredth)
-  line_bounds = (line_to share t by_line_lem l line, line_from share t by_line_lem l line, line_end share t by_line_lem l line)
+  line_bounds = (line_to ratio t by_line_lem l line, line_from ratio t by_line_lem l line, line_end ratio t by_line_lem l line)
 
   pub nearer_bounds : (f ≤ t + 4) × (t ≤ f + 4) × (f ≤ l)
-  nearer_bounds = (nearer_to share t by_line_lem l line f nearer, nearer_from share t by_line_lem l line f nearer, f_below)
+  nearer_bounds = (nearer_to ratio t by_line_lem l line f nearer, nearer_from ratio t by_line_lem l line f nearer, f_below)
 
   pub nearest_bounds : (s ≤ suc t) × (t ≤ s) × (s ≤ last_hundredth)
   nearest_bounds = (
-    nearest_to share t by_line_lem l line f nearer _ nearest,
-    nearest_from share t by_line_lem l line f nearer _ nearest,
-    nearest_end share t by_line_lem l line f nearer _ nearest,
+    nearest_to ratio t by_line_lem l line f nearer _ nearest,
+    nearest_from ratio t by_line_lem l line f nearer _ nearest,
+    nearest_end ratio t by_line_lem l line f nearer _ nearest,
   )

@@ -1,4 +1,4 @@
--- The straight line through both ends of the curve, at which the search for a temperature begins. A share is a resistance over that at 0 °C, in the
+-- The straight line through both ends of the curve, at which the search for a temperature begins. A ratio is a resistance over that at 0 °C, in the
 -- units of W.
 use Rattle.std.specs.Prelude.{ℕ, ◌+◌, ◌-◌, ◌*◌, ◌/◌, ◌≤◌}
 use Rattle.quantity.specs.Units.{last_hundredth}
@@ -8,7 +8,7 @@ use Rattle.platinum.specs.Temperature.{W, scaled}
 abbrev pub slope : ℕ
 slope = 3804350000
 
--- the line's share at t
+-- the line's ratio at t
 abbrev pub line_at : ℕ → ℕ
 line_at t = W 0 + slope * t
 
@@ -16,19 +16,19 @@ line_at t = W 0 + slope * t
 abbrev pub above_line : ℕ → ℕ
 above_line t = 5775 * t * (last_hundredth - t)
 
--- the share of a reading r of a sensor with n ohm at 0 °C, rounded down
-abbrev pub share_of : ℕ → ℕ → ℕ
-share_of n r = scaled r / n
+-- the ratio of a reading r of a sensor with n ohm at 0 °C, rounded down
+abbrev pub ratio_of : ℕ → ℕ → ℕ
+ratio_of n r = scaled r / n
 
--- a share that has a temperature: neither below the low end of the curve nor above its high end
+-- a ratio that has a temperature: neither below the low end of the curve nor above its high end
 abbrev pub BetweenEnds : ℕ → Type 0
-BetweenEnds share = (W 0 ≤ share) × (share ≤ W last_hundredth)
+BetweenEnds ratio = (W 0 ≤ ratio) × (ratio ≤ W last_hundredth)
 
--- the line's point for a share, rounded down to a hundredth
+-- the line's point for a ratio, rounded down to a hundredth
 unfoldable pub line_point : ℕ → ℕ
-line_point share = (share - W 0) / slope
+line_point ratio = (ratio - W 0) / slope
 
--- where the answer would be if the curve lay above the line everywhere by as much as it does at t. For a share between the ends and t up to the
+-- where the answer would be if the curve lay above the line everywhere by as much as it does at t. For a ratio between the ends and t up to the
 -- line's point, no difference in it stops at 0 (`fits` of proofs/Start.antt)
 unfoldable pub next_from : ℕ → ℕ → ℕ
-next_from share t = line_point (share - above_line t)
+next_from ratio t = line_point (ratio - above_line t)

@@ -2,13 +2,13 @@
 -- return's, and above 180.00 °C 70 and 71 in their places.
 use Rattle.std.specs.Prelude.{ℕ, List, [], ◌∷◌, Bool, true, false, Result, Ok, Err}
 use Rattle.quantity.specs.Refusals.{row}
-use Rattle.quantity.specs.Range.{end_refusal}
+use Rattle.quantity.specs.Range.{refusal_at_end}
 use Rattle.quantity.specs.declared.units.Temperature.{Temperature}
 use Rattle.quantity.specs.declared.refusal.Refusal.{Refusal}
 use Rattle.quantity.specs.declared.refusal.Refusal.TheVariants.{SensorKind}
 use Rattle.quantity.specs.declared.refusal.Row.{Row}
-use Rattle.quantity.specs.declared.range.Position.{Position}
-use Rattle.quantity.specs.declared.range.Position.TheVariants.{Alone}
+use Rattle.quantity.specs.declared.range.Role.{Role}
+use Rattle.quantity.specs.declared.range.Role.TheVariants.{Alone}
 use Rattle.quantity.specs.declared.range.End.{End}
 use Rattle.quantity.specs.declared.range.End.TheVariants.{Low, High}
 use Rattle.platinum.specs.Sensor.{sensor_of, is_unknown}
@@ -17,12 +17,12 @@ use Rattle.platinum.specs.declared.reading.Unmeasured.{Unmeasured}
 use Rattle.platinum.specs.declared.reading.Unmeasured.TheVariants.{NoSensor, Outside}
 
 -- the refusal where there is no temperature, by the place of the check
-unfoldable pub unmeasured_refusal : Position → Unmeasured → Refusal
+unfoldable pub unmeasured_refusal : Role → Unmeasured → Refusal
 unmeasured_refusal p NoSensor = SensorKind
-unmeasured_refusal p (Outside e) = end_refusal p e
+unmeasured_refusal p (Outside e) = refusal_at_end p e
 
 -- an answer's refusal, by the place of the check
-unfoldable pub refusal_of : Position → Result Temperature Unmeasured → Result Unit Refusal
+unfoldable pub refusal_of : Role → Result Temperature Unmeasured → Result Unit Refusal
 refusal_of p (Ok t) = Ok tt
 refusal_of p (Err u) = Err (unmeasured_refusal p u)
 
@@ -38,10 +38,10 @@ has_none Low (Err NoSensor) = true
 has_none High (Err NoSensor) = false
 
 -- no temperature, for each end of the range: the high end's row comes right after the low end's
-abbrev pub end_rows : Position → Result Temperature Unmeasured → List Row
+abbrev pub end_rows : Role → Result Temperature Unmeasured → List Row
 end_rows p m =
-    row (end_refusal p Low) (has_none Low m)
-    ∷ row (end_refusal p High) (has_none High m)
+    row (refusal_at_end p Low) (has_none Low m)
+    ∷ row (refusal_at_end p High) (has_none High m)
     ∷ []
 
 -- the rows of a temperature alone: 12; 32, then 70. The temperature operation's `refusal_of Alone` is the first of these

@@ -9,7 +9,7 @@ use Rattle.platinum.specs.declared.sensor.Sensor.{Sensor}
 use Rattle.platinum.specs.declared.reading.Unmeasured.{Unmeasured}
 use Rattle.platinum.specs.declared.reading.Unmeasured.TheVariants.{Outside}
 
--- The resistance at t as a share of that at 0 °C, in units of 10^-14: the quadratic of IEC 60751. The difference of whole numbers, which stops at 0,
+-- The resistance at t as a ratio of that at 0 °C, in units of 10^-14: the quadratic of IEC 60751. The difference of whole numbers, which stops at 0,
 -- never does on 0..18000 (`square` of proofs/Growth.antt).
 unfoldable pub W : ℕ → ℕ
 W t = 100000000000000 + 3908300000 * t - 5775 * t * t

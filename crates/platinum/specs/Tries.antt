@@ -15,10 +15,10 @@ pub record IsNoted (old : Tries) (t : ℕ) (new : Tries) : Type 0 where
   pub later : 0 < old.count → new.first ≡ old.first
   pub farthest : new.farthest ≡ max old.farthest (abs_diff t new.first)
 
--- A search for the temperature t of a share that was begun near the line: its first try is the line's point, which is within 1.25 °C of t, and
+-- A search for the temperature t of a ratio that was begun near the line: its first try is the line's point, which is within 1.25 °C of t, and
 -- it tried none farther than 2.56 °C from there, and at most four.
-pub record FromLine (share t : ℕ) (tries : Tries) : Type 0 where
-  pub on_line : tries.first ≡ line_point share
+pub record FromLine (ratio t : ℕ) (tries : Tries) : Type 0 where
+  pub on_line : tries.first ≡ line_point ratio
   pub near_answer : abs_diff tries.first t ≤ 125
   pub near_start : tries.farthest ≤ 256
   pub few : tries.count ≤ 4

@@ -1,5 +1,5 @@
-// The platinum curve W(t), and the value on which a temperature is searched for. It keeps the share that is searched for to itself, works out the
-// curve by a try alone, notes each try, and can be neither made nor copied elsewhere: so the search, which stands elsewhere, learns where the share
+// The platinum curve W(t), and the value on which a temperature is searched for. It keeps the ratio that is searched for to itself, works out the
+// curve by a try alone, notes each try, and can be neither made nor copied elsewhere: so the search, which stands elsewhere, learns where the ratio
 // lies on the curve by the tries that its notes tell, and by nothing else. That `found` makes one such value and hands out its notes, and that the
 // polynomial is written in `try_at` alone, no contract says: these two are to be seen here.
 ghost use Rattle.std.specs.Prelude.{◌≡◌, ◌+◌, ◌≤◌, ◌<◌, leb};
@@ -13,9 +13,9 @@ use crate::search::largest_at_most;
 use quantity::Temperature;
 
 // W(0) and W(18000).
-pub(crate) const SHARE_AT_ZERO: u64 = 100000000000000;
+pub(crate) const RATIO_AT_ZERO: u64 = 100000000000000;
 
-pub(crate) const SHARE_AT_END: u64 = 168478300000000;
+pub(crate) const RATIO_AT_END: u64 = 168478300000000;
 
 // By how much the line rises in a hundredth of a degree.
 const SLOPE: u64 = 3804350000;
@@ -28,12 +28,12 @@ pub(crate) struct Tries {
     farthest: u64,
 }
 
-// A search for the temperature of a share that lies neither below the curve's low end nor above its high end.
+// A search for the temperature of a ratio that lies neither below the curve's low end nor above its high end.
 #[derive(Drop)]
 pub(crate) struct Search {
-    share: u64,
+    ratio: u64,
     tries: Tries,
-    ghost between_ends: { BetweenEnds share },
+    ghost between_ends: { BetweenEnds ratio },
 }
 
 // What a search has found, with its notes.
@@ -44,14 +44,14 @@ pub(crate) struct Found {
 }
 
 impl Search {
-    // The largest t at which the curve is at most the share, with the notes of the search for it. No other function begins a search.
-    pub(crate) fn found(share: u64) -> Found
-        requires { BetweenEnds share }
-        ensures answer { result.temperature.0 ≡ largest (λ t. leb (W t) share) last_hundredth }
-        ensures from_line { FromLine share result.temperature.0 result.tries }
+    // The largest t at which the curve is at most the ratio, with the notes of the search for it. No other function begins a search.
+    pub(crate) fn found(ratio: u64) -> Found
+        requires { BetweenEnds ratio }
+        ensures answer { result.temperature.0 ≡ largest (λ t. leb (W t) ratio) last_hundredth }
+        ensures from_line { FromLine ratio result.temperature.0 result.tries }
     {
         let mut search = Search {
-            share,
+            ratio,
             tries: Tries {
                 count: 0,
                 first: 0,
@@ -65,45 +65,45 @@ impl Search {
         }
     }
 
-    // The line's point for the share.
+    // The line's point for the ratio.
     #[tactic(auto, unfolding(crate::specs::Temperature::W))]
     pub(crate) fn line_point(&self) -> u64
-        ensures { result ≡ line_point self.now.share }
+        ensures { result ≡ line_point self.now.ratio }
     {
-        line_point(self.share)
+        line_point(self.ratio)
     }
 
     // Where the answer would be if the curve lay above the line everywhere by as much as it does at t.
     #[tactic(auto, using(crate::proofs::Line::curve_above_line, crate::proofs::Start::line_point_in_range, crate::proofs::Start::fits), unfolding(crate::specs::Temperature::W, crate::specs::Line::next_from))]
     pub(crate) fn next_from(&mut self, t: u64) -> u64
-        requires below_line_point { t ≤ line_point self.old.share }
+        requires below_line_point { t ≤ line_point self.old.ratio }
         requires countable { self.old.tries.count < u64.MAX }
-        ensures answer { result ≡ next_from self.old.share t }
-        ensures same_share { self.new.share ≡ self.old.share }
+        ensures answer { result ≡ next_from self.old.ratio t }
+        ensures same_ratio { self.new.ratio ≡ self.old.ratio }
         ensures noted { IsNoted self.old.tries t self.new.tries }
     {
-        let above_line = self.try_at(t) - (SHARE_AT_ZERO + SLOPE * t);
-        line_point(self.share - above_line)
+        let above_line = self.try_at(t) - (RATIO_AT_ZERO + SLOPE * t);
+        line_point(self.ratio - above_line)
     }
 
-    // Whether the curve at t is at most the share.
+    // Whether the curve at t is at most the ratio.
     pub(crate) fn reaches(&mut self, t: u64) -> bool
         requires in_range { t ≤ last_hundredth }
         requires countable { self.old.tries.count < u64.MAX }
-        ensures answer { result ≡ leb (W t) self.old.share }
-        ensures same_share { self.new.share ≡ self.old.share }
+        ensures answer { result ≡ leb (W t) self.old.ratio }
+        ensures same_ratio { self.new.ratio ≡ self.old.ratio }
         ensures noted { IsNoted self.old.tries t self.new.tries }
     {
-        self.try_at(t) <= self.share
+        self.try_at(t) <= self.ratio
     }
 
-    // A try: W(t), the resistance at t as a share of that at 0 °C, in units of 10^-14.
+    // A try: W(t), the resistance at t as a ratio of that at 0 °C, in units of 10^-14.
     #[tactic(auto, using(crate::proofs::Growth::square), unfolding(crate::specs::Temperature::W))]
     fn try_at(&mut self, t: u64) -> u64
         requires in_range { t ≤ last_hundredth }
         requires countable { self.old.tries.count < u64.MAX }
         ensures answer { result ≡ W t }
-        ensures same_share { self.new.share ≡ self.old.share }
+        ensures same_ratio { self.new.ratio ≡ self.old.ratio }
         ensures noted { IsNoted self.old.tries t self.new.tries }
     {
         if self.tries.count == 0 {
@@ -111,15 +111,15 @@ impl Search {
         }
         self.tries.count += 1;
         self.tries.farthest = self.tries.farthest.max(t.abs_diff(self.tries.first));
-        SHARE_AT_ZERO + 3908300000 * t - 5775 * t * t
+        RATIO_AT_ZERO + 3908300000 * t - 5775 * t * t
     }
 }
 
-// The line's point for a share.
+// The line's point for a ratio.
 #[tactic(auto, unfolding(crate::specs::Temperature::W, crate::specs::Line::line_point))]
-fn line_point(share: u64) -> u64
-    requires { W 0 ≤ share }
-    ensures { result ≡ line_point share }
+fn line_point(ratio: u64) -> u64
+    requires { W 0 ≤ ratio }
+    ensures { result ≡ line_point ratio }
 {
-    (share - SHARE_AT_ZERO) / SLOPE
+    (ratio - RATIO_AT_ZERO) / SLOPE
 }

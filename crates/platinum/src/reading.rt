@@ -2,17 +2,17 @@
 ghost use Rattle.std.specs.Prelude.{◌≡◌, IfOk, MatchResult};
 ghost use Rattle.platinum.specs.Sensor.{resistance_of};
 ghost use Rattle.platinum.specs.Temperature.{of_resistance, temperature_of};
-ghost use Rattle.platinum.specs.Line.{share_of};
+ghost use Rattle.platinum.specs.Line.{ratio_of};
 ghost use Rattle.platinum.specs.Tries.{FromLine};
 ghost use Rattle.platinum.specs.Refusal.{alone_rows, end_rows, refusal_of, unmeasured_refusal};
 ghost use Rattle.platinum.specs.Theorems.{MeasuredExactly, UnmeasuredExactly};
-ghost use Rattle.quantity.specs.Range.{end_refusal};
+ghost use Rattle.quantity.specs.Range.{refusal_at_end};
 ghost use Rattle.quantity.specs.Refusals.{first_number, first_of, number_of, refusal_number};
-ghost use Rattle.quantity.specs.declared.range.Position.TheVariants as P;
+ghost use Rattle.quantity.specs.declared.range.Role.TheVariants as P;
 
-use crate::curve::{Found, SHARE_AT_END, SHARE_AT_ZERO, Search};
+use crate::curve::{Found, RATIO_AT_END, RATIO_AT_ZERO, Search};
 use crate::sensor::Sensor;
-use quantity::{End, Position, Refusal, Temperature};
+use quantity::{End, Refusal, Role, Temperature};
 
 /// Why a reading has no temperature: there is no sensor kind to read it by, or it misses an end of the range.
 #[derive(Clone, Copy, Debug, PartialEq, Eq)]
@@ -50,13 +50,13 @@ fn of_sensor(sensor: Sensor, reading: u64) -> Result<Found, Unmeasured>
     ensures answer { MatchResult result
         (λ f. Ok f.temperature ≡ of_resistance (resistance_of sensor) reading)
         (λ e. Err e ≡ of_resistance (resistance_of sensor) reading) }
-    ensures from_line { IfOk result (λ f. FromLine (share_of (resistance_of sensor) reading) f.temperature.0 f.tries) }
+    ensures from_line { IfOk result (λ f. FromLine (ratio_of (resistance_of sensor) reading) f.temperature.0 f.tries) }
 {
     let n = sensor.resistance();
-    if quantity::product_less(reading, 10000000000, n, SHARE_AT_ZERO) {
+    if quantity::product_less(reading, 10000000000, n, RATIO_AT_ZERO) {
         return Err(Unmeasured::Outside(End::Low));
     }
-    if quantity::product_less(n, SHARE_AT_END, reading, 10000000000) {
+    if quantity::product_less(n, RATIO_AT_END, reading, 10000000000) {
         return Err(Unmeasured::Outside(End::High));
     }
     Ok(Search::found(reading * 10000000000 / n))
@@ -65,26 +65,26 @@ fn of_sensor(sensor: Sensor, reading: u64) -> Result<Found, Unmeasured>
 impl Unmeasured {
     /// The refusal, by the place of the check: 12 without a sensor, otherwise that of the end that was missed.
     #[tactic(auto, unfolding(crate::specs::Refusal::unmeasured_refusal))]
-    pub fn refusal(self, position: Position) -> Refusal
-        ensures { result ≡ unmeasured_refusal position self }
+    pub fn refusal(self, role: Role) -> Refusal
+        ensures { result ≡ unmeasured_refusal role self }
     {
         match self {
             Unmeasured::NoSensor => Refusal::SensorKind,
-            Unmeasured::Outside(missed) => quantity::end_refusal(position, missed),
+            Unmeasured::Outside(missed) => quantity::end_refusal(role, missed),
         }
     }
 
     /// The refusal by the rows of the two ends alone, for a place where the sensor has been tested: that of the end that was missed. An answer without
     /// a sensor counts with the low end.
     #[tactic(auto, using(crate::proofs::Ends::outside_refusal, crate::proofs::Ends::outside_number), unfolding(quantity::specs::Refusals::first_of, quantity::specs::Refusals::first_number))]
-    pub fn end_refusal(self, position: Position) -> Refusal
-        ensures answer { Err result ≡ first_of (end_rows position (Err self)) }
-        ensures number { number_of result ≡ first_number (end_rows position (Err self)) }
-        ensures missed_end { (e : End) → self ≡ Unmeasured.Outside e → result ≡ end_refusal position e }
+    pub fn reading_refusal(self, role: Role) -> Refusal
+        ensures answer { Err result ≡ first_of (end_rows role (Err self)) }
+        ensures number { number_of result ≡ first_number (end_rows role (Err self)) }
+        ensures missed_end { (e : End) → self ≡ Unmeasured.Outside e → result ≡ refusal_at_end role e }
     {
         match self {
-            Unmeasured::NoSensor => quantity::end_refusal(position, End::Low),
-            Unmeasured::Outside(end) => quantity::end_refusal(position, end),
+            Unmeasured::NoSensor => quantity::end_refusal(role, End::Low),
+            Unmeasured::Outside(end) => quantity::end_refusal(role, end),
         }
     }
 }

@@ -79,12 +79,12 @@ exists (suc most) a b h = go (eqb b 0) refl (exists most b (a % b))
         let rest = f (omega (arith, mod-lt a {m = b} (omega (arith, z)))) in
         (rest.0, stepped rest.0 a b rest.1)
 
-pub is_largest : (a b : ℕ) → IsLargestCommonDivisor (largest_common_divisor a b) a b
-is_largest a b = let some = exists b a b (le_refl b) in subst (λ (x : ℕ). IsLargestCommonDivisor x a b) (found _ a b some.1) some.1
+pub is_largest_common_divisor : (a b : ℕ) → IsLargestCommonDivisor (largest_common_divisor a b) a b
+is_largest_common_divisor a b = let some = exists b a b (le_refl b) in subst (λ (x : ℕ). IsLargestCommonDivisor x a b) (found _ a b some.1) some.1
 
 -- what the loop needs
 pub divisor_of_zero : (a : ℕ) → a ≡ largest_common_divisor a 0
 divisor_of_zero a = found a a 0 (of_zero a)
 
 pub divisor_of_step : (a b : ℕ) → largest_common_divisor b (a % b) ≡ largest_common_divisor a b
-divisor_of_step a b = found _ a b (stepped _ a b (is_largest b (a % b)))
+divisor_of_step a b = found _ a b (stepped _ a b (is_largest_common_divisor b (a % b)))

@@ -4,20 +4,20 @@ use mathlib.Core.Path.{refl}
 use Prim.Native.Nat.{◌≤◌, ◌<◌}
 use native.Mathlib.Omega.{arith}
 use Rattle.quantity.specs.Refusals.{number_of}
-use Rattle.quantity.specs.Range.{end_refusal, end_number}
+use Rattle.quantity.specs.Range.{refusal_at_end, end_number}
 use Rattle.quantity.specs.Theorems.{TellsEnd}
-use Rattle.quantity.specs.declared.range.Position.{Position}
-use Rattle.quantity.specs.declared.range.Position.TheVariants.{Alone, Supply, Return}
+use Rattle.quantity.specs.declared.range.Role.{Role}
+use Rattle.quantity.specs.declared.range.Role.TheVariants.{Alone, Supply, Return}
 use Rattle.quantity.specs.declared.range.End.TheVariants.{Low, High}
 
-low_number : (p : Position) → end_number p Low < 70
-unfolding end_refusal number_of
+low_number : (p : Role) → end_number p Low < 70
+unfolding refusal_at_end number_of
 low_number Alone = omega arith
 low_number Supply = omega arith
 low_number Return = omega arith
 
-high_number : (p : Position) → 70 ≤ end_number p High
-unfolding end_refusal number_of
+high_number : (p : Role) → 70 ≤ end_number p High
+unfolding refusal_at_end number_of
 high_number Alone = omega arith
 high_number Supply = omega arith
 high_number Return = omega arith

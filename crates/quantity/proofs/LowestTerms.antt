@@ -8,27 +8,27 @@ use Rattle.quantity.specs.Divisors.{largest_common_divisor, InLowestTerms, reduc
 use Rattle.quantity.specs.Fractions.{◌over◌, IsFraction, Same, Represents}
 use Rattle.quantity.specs.Theorems.{ReducedExactly}
 use Rattle.quantity.specs.declared.fraction.Fraction.{Fraction}
-use Rattle.quantity.proofs.Divisors.{is_largest}
+use Rattle.quantity.proofs.Divisors.{is_largest_common_divisor}
 
 -- the largest common divisor of k-fold numbers divides k times that of the numbers
 of_multiples : (k a b : ℕ) → 0 < k → largest_common_divisor (k * a) (k * b) ∣ k * largest_common_divisor a b
 of_multiples k a b h =
-    let m = is_largest (k * a) (k * b) in
+    let m = is_largest_common_divisor (k * a) (k * b) in
     let g = largest_common_divisor (k * a) (k * b) in
     let q = g / k in
     let e : k * q ≡ g = mul-div_cancel' k (m.every k (dvd-mul_right k a) (dvd-mul_right k b)) in
     let p = dvd_of_mul-dvd-mul_left q h (subst (λ (x : ℕ). x ∣ k * a) (sym e) m.first) in
     let r = dvd_of_mul-dvd-mul_left q h (subst (λ (x : ℕ). x ∣ k * b) (sym e) m.second) in
-    subst (λ (x : ℕ). x ∣ k * largest_common_divisor a b) e (mul-dvd-mul_left q k ((is_largest a b).every q p r))
+    subst (λ (x : ℕ). x ∣ k * largest_common_divisor a b) e (mul-dvd-mul_left q k ((is_largest_common_divisor a b).every q p r))
 
 -- of a fraction in lowest terms: where the denominator divides a multiple of the numerator, it divides the multiplier
 multiplier : (x : Fraction) (k : ℕ) → InLowestTerms x → 0 < k → x.denominator ∣ k * x.numerator → x.denominator ∣ k
 multiplier x k low h p =
     let n = x.numerator in
     let d = x.denominator in
-    let m = is_largest n d in
+    let m = is_largest_common_divisor n d in
     let one = low _ m.first m.second in
-    let g = (is_largest (k * n) (k * d)).every d p (dvd-mul_left d k) in
+    let g = (is_largest_common_divisor (k * n) (k * d)).every d p (dvd-mul_left d k) in
     subst (λ (y : ℕ). d ∣ y) (ap (λ (y : ℕ). k * y) one ∙ mul-one k) (dvd_trans d g (of_multiples k n d h))
 
 -- two pairs in lowest terms that are the same fraction are the same pair
@@ -59,7 +59,7 @@ pub zeros_stay : (x : Fraction) → largest_common_divisor x.numerator x.denomin
 unfolding reduced
 zeros_stay x e =
     let g = largest_common_divisor x.numerator x.denominator in
-    let m = is_largest x.numerator x.denominator in
+    let m = is_largest_common_divisor x.numerator x.denominator in
     ap (λ (n : ℕ). n over x.denominator) (divided_by_zero x.numerator g e m.first)
     ∙ ap (λ (d : ℕ). (x.numerator / g) over d) (divided_by_zero x.denominator g e m.second)
 
@@ -70,7 +70,7 @@ reduced_represents x p =
     let n = x.numerator in
     let d = x.denominator in
     let g = largest_common_divisor n d in
-    let m = is_largest n d in
+    let m = is_largest_common_divisor n d in
     let a = div-mul_cancel g m.first in
     let b = div-mul_cancel g m.second in
     record {
@@ -82,7 +82,7 @@ reduced_represents x p =
 pub reduced_is_lowest : (x : Fraction) → IsFraction x → InLowestTerms (reduced x)
 unfolding reduced
 reduced_is_lowest x p k s t =
-    let m = is_largest x.numerator x.denominator in
+    let m = is_largest_common_divisor x.numerator x.denominator in
     let g = largest_common_divisor x.numerator x.denominator in
     let a = subst (λ (z : ℕ). k * g ∣ z) (div-mul_cancel g m.first) (mul-dvd-mul_right k s g) in
     let b = subst (λ (z : ℕ). k * g ∣ z) (div-mul_cancel g m.second) (mul-dvd-mul_right k t g) in

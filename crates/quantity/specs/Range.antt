@@ -4,22 +4,22 @@
 -- too." A temperature alone has the supply's numbers: document 01's row "Temperature alone | 12; 32", and that edge, which is one.
 use Rattle.std.specs.Prelude.{ℕ}
 use Rattle.quantity.specs.Refusals.{number_of}
-use Rattle.quantity.specs.declared.range.Position.{Position}
-use Rattle.quantity.specs.declared.range.Position.TheVariants.{Alone, Supply, Return}
+use Rattle.quantity.specs.declared.range.Role.{Role}
+use Rattle.quantity.specs.declared.range.Role.TheVariants.{Alone, Supply, Return}
 use Rattle.quantity.specs.declared.range.End.{End}
 use Rattle.quantity.specs.declared.range.End.TheVariants.{Low, High}
 use Rattle.quantity.specs.declared.refusal.Refusal.{Refusal}
 use Rattle.quantity.specs.declared.refusal.Refusal.TheVariants.{SupplyBelowRange, ReturnBelowRange, SupplyAboveRange, ReturnAboveRange}
 
 -- the refusal, by the place of the check and the end of the range that was missed
-unfoldable pub end_refusal : Position → End → Refusal
-end_refusal Alone Low = SupplyBelowRange
-end_refusal Alone High = SupplyAboveRange
-end_refusal Supply Low = SupplyBelowRange
-end_refusal Supply High = SupplyAboveRange
-end_refusal Return Low = ReturnBelowRange
-end_refusal Return High = ReturnAboveRange
+unfoldable pub refusal_at_end : Role → End → Refusal
+refusal_at_end Alone Low = SupplyBelowRange
+refusal_at_end Alone High = SupplyAboveRange
+refusal_at_end Supply Low = SupplyBelowRange
+refusal_at_end Supply High = SupplyAboveRange
+refusal_at_end Return Low = ReturnBelowRange
+refusal_at_end Return High = ReturnAboveRange
 
 -- its number
-abbrev pub end_number : Position → End → ℕ
-end_number p e = number_of (end_refusal p e)
+abbrev pub end_number : Role → End → ℕ
+end_number p e = number_of (refusal_at_end p e)

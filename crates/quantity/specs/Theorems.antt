@@ -7,7 +7,7 @@ use Rattle.quantity.specs.Range.{end_number}
 use Rattle.quantity.specs.Refusals.{number_of, NoneApplies}
 use Rattle.quantity.specs.declared.fraction.Fraction.{Fraction}
 use Rattle.quantity.specs.declared.range.End.{End}
-use Rattle.quantity.specs.declared.range.Position.{Position}
+use Rattle.quantity.specs.declared.range.Role.{Role}
 use Rattle.quantity.specs.declared.refusal.Refusal.{Refusal}
 use Rattle.quantity.specs.declared.refusal.Row.{Row}
 
@@ -21,7 +21,7 @@ RefusesNothing rows answer = (answer ≡ Ok tt) ↔ NoneApplies rows
 
 -- A number tells the end of the range that was missed, whatever the places of the check: no place gives for one end what any gives for the other.
 abbrev pub TellsEnd : Type 0
-TellsEnd = (p q : Position) (e f : End) → end_number p e ≡ end_number q f → e ≡ f
+TellsEnd = (p q : Role) (e f : End) → end_number p e ≡ end_number q f → e ≡ f
 
 -- Reduced, a fraction is the same fraction in lowest terms; and only one pair of numbers is.
 abbrev pub ReducedExactly : Fraction → Fraction → Type 0

@@ -6,7 +6,7 @@ ghost use Rattle.quantity.specs.Divisors.{largest_common_divisor, IsLargestCommo
 #[tactic(auto, using(crate::proofs::Divisors::divisor_of_step))]
 pub(crate) fn largest_common_divisor(a: u64, b: u64) -> u64
     ensures answer { result ≡ largest_common_divisor a b }
-    ensures is_largest { IsLargestCommonDivisor result a b }
+    ensures is_largest_common_divisor { IsLargestCommonDivisor result a b }
 {
     let mut first = a;
     let mut second = b;

@@ -2,7 +2,7 @@
 -- Assumes nothing.
 use mathlib.Core.Path.{refl}
 use Rattle.quantity.specs.Largest.{largest}
-use Rattle.quantity.specs.Range.{end_refusal}
+use Rattle.quantity.specs.Range.{refusal_at_end}
 use Rattle.quantity.specs.Refusals.{number_of}
 use Rattle.platinum.specs.Sensor.{resistance_of, sensor_of}
 use Rattle.platinum.specs.Temperature.{W, of_resistance, temperature_of}
@@ -11,7 +11,7 @@ use Rattle.verdict.proofs.Edges.{verdict_edges}
 use Rattle.vectors.specs.Theorems.{MarkedEdges}
 
 pub marked_edges : MarkedEdges
-unfolding temperature_of sensor_of resistance_of of_resistance largest W refusal_of unmeasured_refusal end_refusal number_of
+unfolding temperature_of sensor_of resistance_of of_resistance largest W refusal_of unmeasured_refusal refusal_at_end number_of
 marked_edges = record {
   lowest = refl;
   below = refl;

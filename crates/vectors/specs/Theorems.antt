@@ -4,7 +4,7 @@ use Rattle.std.specs.Prelude.{◌≡◌, ℕ, Result, Ok, Err}
 use Rattle.quantity.specs.Refusals.{number_of}
 use Rattle.quantity.specs.declared.refusal.Refusal.{Refusal}
 use Rattle.quantity.specs.declared.refusal.Refusal.TheVariants.{SupplyBelowRange, SupplyAboveRange}
-use Rattle.quantity.specs.declared.range.Position.TheVariants.{Alone}
+use Rattle.quantity.specs.declared.range.Role.TheVariants.{Alone}
 use Rattle.quantity.specs.declared.units.Temperature.{Temperature}
 use Rattle.platinum.specs.Temperature.{temperature_of}
 use Rattle.platinum.specs.Refusal.{refusal_of}

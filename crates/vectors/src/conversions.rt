@@ -4,6 +4,7 @@ use crate::hexadecimal::{MOST_BYTES, bytes_of, put_bytes};
 use crate::text::numbers;
 use conversion::Unconverted;
 use lines::RefusedAt;
+use quantity::Refusal;
 use std::io;
 use std::io::Write;
 
@@ -35,6 +36,6 @@ fn put_length(out: &mut impl Write, length: Result<usize, Unconverted>) -> io::R
     match length {
         Ok(length) => write!(out, ",N,{length}"),
         Err(Unconverted::At(RefusedAt { refusal, line })) => write!(out, ",X,{refusal},{line}"),
-        Err(Unconverted::Refused(refusal)) => put_refusal(out, refusal),
+        Err(Unconverted::NoRoom) => put_refusal(out, Refusal::Room),
     }
 }

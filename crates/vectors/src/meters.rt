@@ -17,7 +17,7 @@ pub(crate) fn of_state(out: &mut impl Write, line: &[u8]) -> io::Result<()> {
 // The meter whose card and state are the first numbers of a line.
 pub(crate) fn meter_of(line: &[u8]) -> Meter {
     let [
-        register,
+        heat_register,
         volume,
         accepted,
         refused,
@@ -27,7 +27,7 @@ pub(crate) fn meter_of(line: &[u8]) -> Meter {
     ] = numbers::<7>(line, 13);
     Meter {
         card: Card::from(numbers(line, 1)),
-        register,
+        heat_register,
         volume,
         accepted,
         refused,
@@ -48,7 +48,7 @@ pub(crate) fn put_stepped(out: &mut impl Write, stepped: Stepped) -> io::Result<
 
 fn put_state(out: &mut impl Write, m: Meter) -> io::Result<()> {
     for number in [
-        m.register,
+        m.heat_register,
         m.volume,
         m.accepted,
         m.refused,

@@ -2,7 +2,7 @@
 use crate::answers::{Unanswered, put_refusal};
 use crate::text::numbers;
 use platinum::{Sensor, Unmeasured};
-use quantity::{Difference, Position, Temperature, Unit};
+use quantity::{Difference, Role, Temperature, Unit};
 use std::io;
 use std::io::Write;
 
@@ -10,7 +10,7 @@ use std::io::Write;
 pub(crate) fn of_reading(out: &mut impl Write, line: &[u8]) -> Result<(), Unanswered> {
     let [sensor, reading] = numbers::<2>(line, 1);
     let measured = platinum::temperature(sensor, reading);
-    let t = measured.map_err(|unmeasured| unmeasured.refusal(Position::Alone))?;
+    let t = measured.map_err(|unmeasured| unmeasured.refusal(Role::Alone))?;
     Ok(write!(out, ",T,{}", t.0)?)
 }
 
@@ -36,7 +36,7 @@ fn put_nearness(
     match measured {
         Ok(t) if is_near(t, degree) => out.write_all(b",within"),
         Ok(_) => out.write_all(b",outside"),
-        Err(unmeasured) => put_refusal(out, unmeasured.refusal(Position::Alone)),
+        Err(unmeasured) => put_refusal(out, unmeasured.refusal(Role::Alone)),
     }
 }
 

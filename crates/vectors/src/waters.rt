@@ -19,8 +19,8 @@ pub(crate) fn of_published(out: &mut impl Write, line: &[u8]) -> Result<(), Unan
 
 // The coefficient of the two temperatures and the place at the front of a line.
 fn coefficient_of(line: &[u8]) -> Result<u64, Refusal> {
-    let [supply, returned, place] = numbers::<3>(line, 1);
-    water::coefficient(Temperature(supply), Temperature(returned), place)
+    let [ts, tr, place] = numbers::<3>(line, 1);
+    water::coefficient(Temperature(ts), Temperature(tr), place)
 }
 
 // `W,degree,unit of enthalpy,unit of volume`: the table's entry, in the units in which the figures are published.

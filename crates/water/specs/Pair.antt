@@ -2,10 +2,10 @@
 -- the heat of a volume have in common. Document 01, "Card": "place (1 supply, 2 return: where volume is measured)".
 use Rattle.std.specs.Prelude.{ℕ, List, [], ◌∷◌, Bool, cond, not, ◌&&◌, eqb}
 use Rattle.quantity.specs.declared.units.Temperature.{Temperature}
-use Rattle.quantity.specs.declared.range.Position.TheVariants.{Supply, Return}
+use Rattle.quantity.specs.declared.range.Role.TheVariants.{Supply, Return}
 use Rattle.quantity.specs.declared.range.End.TheVariants.{High}
 use Rattle.quantity.specs.Units.{is_colder, whole_degrees}
-use Rattle.quantity.specs.Range.{end_refusal}
+use Rattle.quantity.specs.Range.{refusal_at_end}
 use Rattle.quantity.specs.Refusals.{row, outside}
 use Rattle.quantity.specs.declared.refusal.Refusal.TheVariants.{Place}
 use Rattle.quantity.specs.declared.refusal.Row.{Row}
@@ -28,5 +28,5 @@ is_above w t = is_colder (whole_degrees w.last) t
 abbrev pub pair_rows : Table → Temperature → Temperature → ℕ → List Row
 pair_rows w ts tr place =
     row Place (outside place 1 2)
-    ∷ row (end_refusal Supply High) (is_above w ts) ∷ row (end_refusal Return High) (is_above w tr)
+    ∷ row (refusal_at_end Supply High) (is_above w ts) ∷ row (refusal_at_end Return High) (is_above w tr)
     ∷ []

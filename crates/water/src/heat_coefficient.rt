@@ -45,12 +45,15 @@ fn order_refusal(ts: Temperature, tr: Temperature) -> Result<(), Refusal>
 impl Pair {
     #[tactic(auto, unfolding(crate::specs::Coefficient::exact_coefficient))]
     fn floored_coefficient(self) -> u64
-        requires { self.returned.temperature.0 < self.supply.temperature.0 }
-        ensures { result ≡ floored (exact_coefficient water self.supply.temperature self.returned.temperature
-            (at_place self.place self.supply.temperature self.returned.temperature)) }
+        requires { self.return_water.temperature.0 < self.supply_water.temperature.0 }
+        ensures { result ≡ floored (exact_coefficient water self.supply_water.temperature self.return_water.temperature
+            (at_place self.place self.supply_water.temperature self.return_water.temperature)) }
     {
-        let rise = enthalpy_rise(self.supply, self.returned);
-        let difference = self.supply.temperature.distance(self.returned.temperature);
+        let rise = enthalpy_rise(self.supply_water, self.return_water);
+        let difference = self
+            .supply_water
+            .temperature
+            .distance(self.return_water.temperature);
         let denominator = u128::from(self.measured().volume) * u128::from(difference.0);
         (100000000000 * u128::from(rise) / denominator) as u64
     }

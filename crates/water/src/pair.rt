@@ -6,14 +6,14 @@ ghost use Rattle.water.specs.Pair.{at_place, pair_rows};
 
 use crate::interpolation::{WaterAt, water_at};
 use quantity::{
-    End, LAST_HUNDREDTH, Position, Refusal, Temperature, end_refusal, first_refusal, is_outside,
+    End, LAST_HUNDREDTH, Refusal, Role, Temperature, end_refusal, first_refusal, is_outside,
 };
 
 // The water in the supply and in the return pipe, and the place.
 #[derive(Clone, Copy)]
 pub(crate) struct Pair {
-    pub(crate) supply: WaterAt,
-    pub(crate) returned: WaterAt,
+    pub(crate) supply_water: WaterAt,
+    pub(crate) return_water: WaterAt,
     // The papers' number, 1 or 2. An enum is no plainer: it would take row 11 out of the table of rows, to be matched once.
     pub(crate) place: u64,
 }
@@ -21,12 +21,12 @@ pub(crate) struct Pair {
 impl Pair {
     pub(crate) fn new(ts: Temperature, tr: Temperature, place: u64) -> Result<Pair, Refusal>
         ensures rows { MatchResult result (λ _. first_of (pair_rows water ts tr place) ≡ Ok tt) (λ r. first_of (pair_rows water ts tr place) ≡ Err r) }
-        ensures pair { IfOk result (λ p. (p.supply.temperature ≡ ts) × (p.returned.temperature ≡ tr) × (p.place ≡ place)) }
+        ensures pair { IfOk result (λ p. (p.supply_water.temperature ≡ ts) × (p.return_water.temperature ≡ tr) × (p.place ≡ place)) }
     {
         pair_refusal(ts, tr, place)?;
         Ok(Pair {
-            supply: water_at(ts),
-            returned: water_at(tr),
+            supply_water: water_at(ts),
+            return_water: water_at(tr),
             place,
         })
     }
@@ -34,12 +34,12 @@ impl Pair {
     // The water at the place.
     #[tactic(auto, unfolding(crate::specs::Pair::at_place))]
     pub(crate) fn measured(self) -> WaterAt
-        ensures { result.temperature ≡ at_place self.place self.supply.temperature self.returned.temperature }
+        ensures { result.temperature ≡ at_place self.place self.supply_water.temperature self.return_water.temperature }
     {
         if self.place == 2 {
-            self.returned
+            self.return_water
         } else {
-            self.supply
+            self.supply_water
         }
     }
 }
@@ -51,7 +51,7 @@ fn pair_refusal(ts: Temperature, tr: Temperature, place: u64) -> Result<(), Refu
     let top = Temperature(LAST_HUNDREDTH);
     first_refusal(&[
         Refusal::Place.when(is_outside(place, 1, 2)),
-        end_refusal(Position::Supply, End::High).when(top < ts),
-        end_refusal(Position::Return, End::High).when(top < tr),
+        end_refusal(Role::Supply, End::High).when(top < ts),
+        end_refusal(Role::Return, End::High).when(top < tr),
     ])
 }

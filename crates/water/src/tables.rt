@@ -2,6 +2,8 @@
 ghost use Rattle.std.specs.Prelude.{◌≡◌};
 ghost use Rattle.water.specs.Table.{water, entry_of};
 
+use quantity::LAST_DEGREE;
+
 /// The water table at a whole degree, by IAPWS-IF97 at 1.6 MPa, rounded to nearest.
 #[derive(Clone, Copy, Debug, PartialEq, Eq)]
 pub struct Entry {
@@ -12,7 +14,7 @@ pub struct Entry {
 }
 
 // One for every whole degree from 0 to the last.
-const ENTRIES: usize = 181;
+const ENTRIES: usize = LAST_DEGREE as usize + 1;
 
 // Two tables and not one of pairs: document 01, "Choosing the form by place", names "two constant tables of 181 numbers".
 // The specific enthalpy in mJ/kg.

@@ -35,12 +35,12 @@ impl Pair {
     #[tactic(auto, unfolding(crate::specs::Heat::exact_heat, crate::specs::Heat::pair_heat))]
     fn floored_heat(self, u: u64) -> u64
         requires { u ≤ 1000000 }
-        ensures { result ≡ floored (pair_heat water u self.supply.temperature self.returned.temperature self.place) }
+        ensures { result ≡ floored (pair_heat water u self.supply_water.temperature self.return_water.temperature self.place) }
     {
-        let rise = if self.supply.temperature < self.returned.temperature {
-            enthalpy_rise(self.returned, self.supply)
+        let rise = if self.supply_water.temperature < self.return_water.temperature {
+            enthalpy_rise(self.return_water, self.supply_water)
         } else {
-            enthalpy_rise(self.supply, self.returned)
+            enthalpy_rise(self.supply_water, self.return_water)
         };
         let numerator = u128::from(1000000 * u) * u128::from(rise);
         (numerator / u128::from(self.measured().volume)) as u64

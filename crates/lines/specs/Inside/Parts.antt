@@ -5,7 +5,7 @@ use Rattle.quantity.specs.declared.refusal.Refusal.{Refusal}
 use Rattle.meter.specs.Card.{card_fields}
 use Rattle.lines.specs.Bytes.{comma, digit_zero}
 use Rattle.lines.specs.Number.{is_digit, most_digits, is_number, value_of}
-use Rattle.lines.specs.Line.{LineKind, kind_of, count_of, all_numbers_of, in_edition, content_rows, line_of}
+use Rattle.lines.specs.Line.{totals_fields, LineKind, kind_of, count_of, all_numbers_of, in_edition, content_rows, line_of}
 use Rattle.lines.specs.Reading.{shape_rows, numbers_in, size_of, answer_of}
 use Rattle.lines.specs.declared.line.EditionLine.{EditionLine}
 use Rattle.lines.specs.declared.number.Number.{Number}
@@ -83,4 +83,4 @@ numbers_parted line = parted_at (count_of line.edition (kind_of line.line)) (all
 
 -- line E has no more numbers than it has in the newest edition
 abbrev pub most_later : ℕ
-most_later = 6
+most_later = totals_fields

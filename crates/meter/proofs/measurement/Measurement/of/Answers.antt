@@ -9,6 +9,6 @@ unfolding volume_of
 invariant_of-result c = record {
   count_bounds = counts_pass _ _ (sym c.count_refusal.ensures ∙ c.in_ok-count_refusal.was);
   volume_is = refl;
-  supply_is = c.in_ok-supply.ensures.value;
-  returned_is = c.in_ok-returned.ensures.value;
+  supply_is = c.in_ok-supply_temperature.ensures.value;
+  return_is = c.in_ok-return_temperature.ensures.value;
 }

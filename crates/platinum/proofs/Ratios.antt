@@ -1,4 +1,4 @@
--- The largest temperature whose share of the curve is at most a given one.
+-- The largest temperature whose ratio of the curve is at most a given one.
 -- Assumes nothing.
 use mathlib.Core.Path.{◌≡◌, ap, fun_ext}
 use mathlib.Core.Bool.{Bool}
@@ -15,27 +15,27 @@ use Rattle.platinum.specs.Temperature.{W}
 use Rattle.platinum.proofs.Growth.{grows_or_stays}
 
 abbrev reaches : ℕ → ℕ → Bool
-reaches share t = leb (W t) share
+reaches ratio t = leb (W t) ratio
 
--- the temperature of a share
+-- the temperature of a ratio
 abbrev pub answer_of : ℕ → ℕ
-answer_of share = largest (reaches share) last_hundredth
+answer_of ratio = largest (reaches ratio) last_hundredth
 
-module _ (share : ℕ) where
-  pub answer_bounded : answer_of share ≤ last_hundredth
-  answer_bounded = bounded (reaches share) last_hundredth
+module _ (ratio : ℕ) where
+  pub answer_bounded : answer_of ratio ≤ last_hundredth
+  answer_bounded = bounded (reaches ratio) last_hundredth
 
-  -- the curve there is at most the share ..
-  pub answer_reached : W 0 ≤ share → W (answer_of share) ≤ share
-  answer_reached h = leb-true _ _ (holds (reaches share) last_hundredth 0 (lit≤ tt) (le-leb (W 0) share h))
+  -- the curve there is at most the ratio ..
+  pub answer_reached : W 0 ≤ ratio → W (answer_of ratio) ≤ ratio
+  answer_reached h = leb-true _ _ (holds (reaches ratio) last_hundredth 0 (lit≤ tt) (le-leb (W 0) ratio h))
 
   -- .. and at nothing above it
-  pub answer_largest : (t : ℕ) → t ≤ last_hundredth → W t ≤ share → t ≤ answer_of share
-  answer_largest t l h = at_least (reaches share) last_hundredth t l (le-leb (W t) share h)
+  pub answer_largest : (t : ℕ) → t ≤ last_hundredth → W t ≤ ratio → t ≤ answer_of ratio
+  answer_largest t l h = at_least (reaches ratio) last_hundredth t l (le-leb (W t) ratio h)
 
-  -- so a t at which the curve lies above the share is above the answer
-  pub above_answer : (t : ℕ) → W 0 ≤ share → share < W t → answer_of share < t
-  above_answer t h g = grind (arith, answer_reached h, grows_or_stays t (answer_of share), answer_bounded)
+  -- so a t at which the curve lies above the ratio is above the answer
+  pub above_answer : (t : ℕ) → W 0 ≤ ratio → ratio < W t → answer_of ratio < t
+  above_answer t h g = grind (arith, answer_reached h, grows_or_stays t (answer_of ratio), answer_bounded)
 
 -- n × W(t) is at most x exactly where W(t) is at most x / n, rounded down
 pub by_division : (n x b : ℕ) → 0 < n → largest (reaches (x / n)) b ≡ largest (λ t. leb (n * W t) x) b
