@@ -1,4 +1,6 @@
--- The card, document 01, "Card", and the row "Card" of the refusal table.
+-- The card: what is fixed about a heat meter, and which cards are allowed (docs/FORMAT.md, "Line C: the meter's card"). A row is a refusal with the
+-- condition under which it is given (quantity's specs/Refusals.antt, which has the numbers); the first row whose condition holds refuses the card,
+-- and a card that no row refuses is accepted, or allowed.
 use Rattle.std.specs.Prelude.{ℕ, ◌*◌, ◌^◌, List, [], ◌∷◌, not, ◌&&◌, ◌||◌, ltb, leb}
 use Rattle.quantity.specs.Refusals.{row, outside}
 use Rattle.quantity.specs.declared.refusal.Refusal.TheVariants as R
@@ -7,8 +9,10 @@ use Rattle.quantity.specs.Units.{last_degree, largest_kelvins}
 use Rattle.platinum.specs.Sensor.{sensor_of, is_unknown}
 use Rattle.meter.specs.declared.card.Card.{Card}
 
--- "Fields, in order: serial; place (1 supply, 2 return: where volume is measured); sensor; millilitres per pulse; Θmin and Θmax in
--- whole °C; Δmin and Δmax in whole K; qi, qp, qs in mL/h; Ps in W."
+-- The card's numbers in the order of line C: the serial number; the place where the volume is measured, 1 in the supply and 2 in the return; the
+-- resistance of the platinum sensors at 0 °C, in ohm; the volume of a pulse, in mL; in whole °C the limits of the temperatures, Θmin and Θmax; in
+-- whole K those of the temperature difference, Δmin and Δmax; the flow rates in mL/h, namely the lower limit qi, the permanent one qp and the upper
+-- limit qs; and the upper limit Ps of the thermal power, in W.
 unfoldable pub fields_of : Card → List ℕ
 fields_of c =
     c.serial
@@ -25,13 +29,21 @@ fields_of c =
     ∷ c.ps
     ∷ []
 
--- "the card's twelve fields"
+-- How many numbers these are.
 abbrev pub card_fields : ℕ
 card_fields = 12
 
--- "10 serial outside 1..99999999; 11 place not 1 or 2; 12 sensor not 100, 500 or 1000; 13 mL per pulse outside 1..100000;
--- 14 Θmin ≥ Θmax or Θmax > 180; 15 Δmin not 1, 2, 3; 16 Δmax < 10×Δmin or > 180; 17 not 1 ≤ qi ≤ qp ≤ qs ≤ 10^9;
--- 18 Ps outside 1..10^9"
+-- A card is refused, in this order, with
+-- 10 unless its serial number is from 1 to 99999999,
+-- 11 unless the volume is measured in the supply or in the return,
+-- 12 unless there is a platinum sensor of this resistance,
+-- 13 unless a pulse stands for 1 mL to 100 L,
+-- 14 unless Θmin is below Θmax, and Θmax at most 180 °C,
+-- 15 unless Δmin is 1, 2 or 3 K,
+-- 16 unless Δmax is at least ten times Δmin (OIML R 75-1) and at most 180 K,
+-- 17 unless qi is at least 1 mL/h, qp not below qi, qs not below qp, and qs at most 1000 m³/h,
+-- 18 unless Ps is from 1 W to 1 GW.
+-- The fields that no formula uses, which are the serial number, qi and qp, are tested like the others.
 unfoldable pub card_rows : Card → List Row
 card_rows c =
     row R.Serial (outside c.serial 1 99999999)

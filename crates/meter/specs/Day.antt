@@ -1,5 +1,5 @@
--- The calls of a day, document 02, request 7: "every list of such calls from zero cells and any meter, each given the meter and cells that the
--- one before it returned, with nothing else writing them".
+-- The calls of a day: samples with their quarter's index, where each call is given the meter and also the cells that the call before it left
+-- (docs/OPERATIONS.md, "The day profile"). So nothing else has written into the cells, whereas in specs/Calls.antt the cells of each call are any.
 use Rattle.std.specs.Prelude.{ℕ, ◌≡◌, List, [], ◌∷◌}
 use Rattle.meter.specs.Profile.{in_quarter_of}
 use Rattle.meter.specs.Run.{Asking, asks_in_quarter}
@@ -7,23 +7,24 @@ use Rattle.meter.specs.declared.profile.Profiled.{Profiled}
 use Rattle.meter.specs.declared.sample.Sample.{Sample}
 use Rattle.meter.specs.declared.state.Meter.{Meter}
 
--- a sample with its quarter's index
+-- A sample with the index of its quarter.
 pub record InQuarter : Type 0 where
   pub sample : Sample
   pub index : ℕ
 
--- From a meter and cells, by calls with these samples, to a meter and cells. Each call answers what its function's contract says.
+-- `DayCalls m cells qs z last`: calls with the samples qs, which lead from the meter m and these cells to the meter z and the cells last. Each
+-- answers what its contract says.
 pub data DayCalls : Meter → List ℕ → List InQuarter → Meter → List ℕ → Type 0 where
   no_call : {m : Meter} {cells : List ℕ} → DayCalls m cells [] m cells
   call : {m z : Meter} {cells last : List ℕ} {qs : List InQuarter} (q : InQuarter) (a : Profiled) → a ≡ in_quarter_of m cells q.sample q.index →
       DayCalls a.stepped.meter a.cells qs z last → DayCalls m cells (q ∷ qs) z last
 
--- the meter and the cells that samples with their index lead to, from a meter and cells on
+-- The meter and the cells that such samples lead to, as a computation.
 abbrev pub day_of : Meter → List ℕ → List InQuarter → Meter × List ℕ
 day_of m cells [] = (m, cells)
 day_of m cells (q ∷ qs) = let a = in_quarter_of m cells q.sample q.index in day_of a.stepped.meter a.cells qs
 
--- what is asked in such calls: each with the cells that the one before it returned
+-- What is asked in such calls: each asking has the cells that the call before it left.
 abbrev pub day_asked : Meter → List ℕ → List InQuarter → List Asking
 day_asked m cells [] = []
 day_asked m cells (q ∷ qs) =

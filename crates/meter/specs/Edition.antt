@@ -1,22 +1,22 @@
--- The editions of a meter and of its archive, document 02, requests 2 and 5. An edition is a number, and any number can be passed. What an
--- edition changes stands here.
+-- The editions of a meter and of the file of its readings: 1, 2 and 3 (docs/FORMAT.md, "Bytes, lines and numbers"). A meter holds its edition as a
+-- number, and any number may stand there; the rows refuse one that is no edition. All that an edition changes in a meter is said here, and the
+-- other files ask for it by these names.
 use Rattle.std.specs.Prelude.{ℕ, Bool, leb}
 use Rattle.quantity.specs.Refusals.{outside}
 
--- "The meter record carries its edition, 1 or 2", and "Edition 3 is now let through wherever request 2 lets 2 through"
+-- The newest edition: the editions are the numbers from 1 to this one.
 abbrev pub last_edition : ℕ
 last_edition = 3
 
--- "another edition"
+-- A number that is no edition's.
 abbrev pub is_other_edition : ℕ → Bool
 is_other_edition e = outside e 1 last_edition
 
--- Of the editions, those whose meters keep the seconds of accepted samples above q_s: "Files headed HEATARCHIVE,2 don't refuse them with 39,
--- and the meter keeps the seconds of accepted samples above q_s [..] Edition 1 meters keep 39"; an edition 3 meter counts "flow above q_s [..]
--- as in edition 2".
+-- From edition 2 on a sample whose flow is above the upper limit qs can be accepted, and the meter keeps its seconds apart: above qs a heat meter
+-- need not keep its error limit, and the kept seconds tell for how long heat was counted so. Edition 1 refuses such a sample (39).
 abbrev pub keeps_seconds : ℕ → Bool
 keeps_seconds e = leb 2 e
 
--- Those whose meters count cold: "Where an edition 1 or 2 meter answers 36, an edition 3 meter counts cold".
+-- From edition 3 on a sample whose supply is colder than its return can be accepted, and counts as cold. Editions 1 and 2 refuse it (36).
 abbrev pub counts_cold : ℕ → Bool
 counts_cold e = leb 3 e

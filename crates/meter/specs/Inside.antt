@@ -1,3 +1,3 @@
--- What only functions inside this crate, and the proofs of them, cite. None of it is part of what a public operation means.
+-- What only functions inside this crate, and the proofs about them, cite. No public operation means any of it.
 pub mod Stages
 pub mod Quarters

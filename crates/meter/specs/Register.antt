@@ -1,5 +1,5 @@
--- The registers of a meter, document 02, request 5: "an edition 3 meter counts cold: the heat formula with the two enthalpies exchanged, into
--- a register of its own". What is said of a register is said of either, with the register as a parameter.
+-- The two registers of a meter, heat and cold, and whose own a sample is (docs/OPERATIONS.md, "The registers' bounds"). Whatever is said of a
+-- register takes it as a parameter, so that one statement holds of both.
 use Rattle.std.specs.Prelude.{ℕ, Bool, true, false, cond}
 use Rattle.quantity.specs.Units.{is_colder}
 use Rattle.quantity.specs.declared.units.Temperature.{Temperature}
@@ -10,25 +10,27 @@ use Rattle.meter.specs.declared.register.Register.TheVariants.{Heat, Cold}
 use Rattle.meter.specs.declared.sample.Sample.{Sample}
 use Rattle.meter.specs.declared.state.Meter.{Meter}
 
--- what stands in a register, in mJ
+-- What a register holds, in mJ.
 abbrev pub register_of : Register → Meter → ℕ
 register_of Heat m = m.heat_register
 register_of Cold m = m.cold_register
 
--- "An accepted sample is the cold register's own when its supply temperature is below its return temperature, and otherwise the heat register's."
+-- Which register counts a sample, if it is accepted: the cold register where the supply is colder than the return, and otherwise the heat register.
+-- The sample is called that register's own.
 abbrev pub register_by : Temperature → Temperature → Register
 register_by supply_temperature return_temperature = cond (is_colder supply_temperature return_temperature) Cold Heat
 
+-- The same by a sample's ts and tr. A refused sample has such a register too; `is_own` of specs/Sum.antt leaves it out.
 abbrev pub own_register : Card → Sample → Register
 own_register c s = register_by (ts c s) (tr c s)
 
--- one and the same register
+-- Whether two names mean one and the same register.
 abbrev pub is_same : Register → Register → Bool
 is_same Heat Heat = true
 is_same Heat Cold = false
 is_same Cold Heat = false
 is_same Cold Cold = true
 
--- what mJ that are own's add to a register: all of them to own, and nothing to the other
+-- Of n mJ that are one register's own, a register gets all if it is that one, and otherwise nothing.
 abbrev pub added_to : Register → Register → ℕ → ℕ
 added_to r own n = cond (is_same r own) n 0

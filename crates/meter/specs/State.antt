@@ -1,5 +1,5 @@
--- The meter's state, document 01, "Card", and the row "State" of the refusal table, with its edition and its kept seconds (document 02,
--- request 2), and its cold register (request 5).
+-- The state of a meter: its card, its edition and six totals. This page has the fresh meter, the limits of the totals, and the two rows that refuse
+-- a state, 20 and 21 (docs/OPERATIONS.md, "The meter's state").
 use Rattle.std.specs.Prelude.{ℕ, ◌+◌, ◌-◌, ◌*◌, ◌^◌, List, [], ◌∷◌, ◌++◌, Bool, not, ◌&&◌, ◌||◌, ltb, eqb, Result, Ok, Err}
 use Rattle.std.specs.Result.{result_and}
 use Rattle.quantity.specs.Refusals.{row, first_of}
@@ -11,44 +11,47 @@ use Rattle.meter.specs.Card.{card_rows}
 use Rattle.meter.specs.declared.card.Card.{Card}
 use Rattle.meter.specs.declared.state.Meter.{Meter}
 
--- "A fresh meter has an accepted card and zeros in heat register (mJ), volume (mL), accepted count and refused count." Its kept seconds, of
--- accepted samples above q_s, and its cold register are zero too.
+-- The meter of a card and an edition with all six totals at 0: heat register and cold register in mJ, volume in mL, the counts of accepted and of
+-- refused samples, and the kept seconds, which are those of accepted samples whose flow was above qs.
 abbrev pub zeros : Card → ℕ → Meter
 zeros c e = record { card = c; edition = e; heat_register = 0; volume = 0; accepted = 0; refused = 0; kept_seconds = 0; cold_register = 0 }
 
--- the card's rows, then "A fresh meter [..] of another edition [..] is met by 20"
+-- What refuses a fresh meter: first its card (10 to 18), then a number that is no edition's (20).
 abbrev pub fresh_rows : Card → ℕ → List Row
 fresh_rows c e = card_rows c ++ (row R.State (is_other_edition e) ∷ [])
 
--- the fresh meter of a card in an edition, or the first row's refusal
+-- The fresh meter of a card and an edition: the one with zeros, or the refusal of the first of these rows that applies.
 unfoldable pub fresh_of : Card → ℕ → Result Meter Refusal
 fresh_of c e = result_and (first_of (fresh_rows c e)) (Ok (zeros c e))
 
--- the limits of 20 and 21
+-- The limits of the totals. Either register may hold up to 10^18−1 mJ,
 abbrev pub largest_register : ℕ
 largest_register = 10 ^ 18 - 1
 
+-- the volume up to 10^15−1 mL,
 abbrev pub largest_volume : ℕ
 largest_volume = 10 ^ 15 - 1
 
+-- and accepted and refused samples together may be 10^12.
 abbrev pub largest_count : ℕ
 largest_count = 10 ^ 12
 
--- "20 register above 10^18−1, volume above 10^15−1 or the two counts together above 10^12"; the cold register's limit is the heat register's:
--- "20 and 41 apply their heat limit to it as well". The two counts are count together.
+-- A total is above its limit. The two counts together come as a number of their own, since the code caps their sum, which can pass 64 bits.
 abbrev pub passes_limit_by : Meter → ℕ → Bool
 passes_limit_by m count =
     ltb largest_register m.heat_register || ltb largest_register m.cold_register || ltb largest_volume m.volume || ltb largest_count count
 
+-- The same with the sum of the meter's own two counts.
 abbrev pub passes_limit : Meter → Bool
 passes_limit m = passes_limit_by m (m.accepted + m.refused)
 
--- the most seconds of a sample, those of 30
+-- The longest time of a sample, an hour (row 30 of specs/Step.antt); so no accepted sample adds more to the kept seconds.
 abbrev pub most_seconds : ℕ
 most_seconds = 3600
 
--- "a state of another edition, or a state whose kept seconds exceed 3600 times its accepted count, or aren't zero in edition 1, is met by 20",
--- "and 20 meets a cold register above zero in edition 1 or 2"
+-- The edition and the totals of a meter cannot belong together: the edition is none of the three; or the meter has kept more seconds than its
+-- accepted samples can have had, at 3600 each; or a total is above 0 that its edition lacks, namely the kept seconds in edition 1 or the cold
+-- register in editions 1 and 2.
 abbrev pub misfits_edition : Meter → Bool
 misfits_edition m =
     is_other_edition m.edition
@@ -56,6 +59,7 @@ misfits_edition m =
     || (not (keeps_seconds m.edition) && ltb 0 m.kept_seconds)
     || (not (counts_cold m.edition) && ltb 0 m.cold_register)
 
--- "20 ..; 21 the counts together are 10^12"
+-- A state is refused with 20 if a total is above its limit, or if the totals do not fit the edition. It is refused with 21 if the two counts
+-- together have reached their limit, so that no further sample can be counted.
 unfoldable pub state_rows : Meter → List Row
 state_rows m = row R.State (passes_limit m || misfits_edition m) ∷ row R.CountsFull (eqb (m.accepted + m.refused) largest_count) ∷ []

@@ -1,5 +1,7 @@
--- What is proved of the meter, statement by statement. Each has the name of the clause that promises it and of the lemma in proofs/ that proves it:
--- first what is true of one answer, which its function promises, then what is true of whole lists of calls, which src/laws.rt promises.
+-- The theorems about the meter. Each is a definition. The clause that promises it has its name in small letters, or the function has it that
+-- promises nothing else; so has the lemma in proofs/ that proves it. First stands what is true of one answer, which its function promises, then
+-- what is true of whole lists of calls, which src/laws.rt promises. In what follows a meter after calls is any that a list of calls
+-- (specs/Calls.antt) leads to from a fresh one, whatever was accepted or refused in them.
 use Rattle.std.specs.Prelude.{◌≡◌, List, [], ◌∷◌, map, true, false, cond, ◌||◌, ◌↔◌, ◌⊎◌, ℕ, ◌+◌, ◌*◌, ◌≤◌, ◌<◌, eqb, Result, Ok}
 use Rattle.std.specs.List.{sum}
 use Rattle.quantity.specs.Fractions.{floored}
@@ -29,12 +31,13 @@ use Rattle.meter.specs.declared.stepping.Stepped.{Stepped}
 
 -- ---- one answer
 
--- A fresh meter is made exactly of an accepted card and an edition, and holds zeros.
+-- A meter is the fresh one of a card and an edition: the card is allowed, the edition is 1, 2 or 3, and all totals are 0.
 pub record IsFresh (c : Card) (e : ℕ) (m : Meter) : Type 0 where
   pub card : first_of (card_rows c) ≡ Ok tt
   pub edition : is_other_edition e ≡ false
   pub meter : zeros c e ≡ m
 
+-- `fresh` makes a meter exactly where the card is allowed and the edition is 1, 2 or 3; and it is the one with zeros.
 abbrev pub FreshExactly : Card → ℕ → Result Meter Refusal → Type 0
 FreshExactly c e answer = (m : Meter) → (answer ≡ Ok m) ↔ IsFresh c e m
 
@@ -42,23 +45,25 @@ FreshExactly c e answer = (m : Meter) → (answer ≡ Ok m) ↔ IsFresh c e m
 abbrev pub AcceptedExactly : Meter → Sample → Stepped → Type 0
 AcceptedExactly m s answer = (is_accepted answer.outcome ≡ true) ↔ NoRowRefuses m s
 
--- Both readings of an accepted sample have a temperature, so that none with the default of a missing one enters a sum.
+-- Both readings of a sample have a temperature.
 pub record HasTemperatures (c : Card) (s : Sample) : Type 0 where
   pub of_supply : (t : Temperature) × (supply_of c s ≡ Ok t)
   pub of_return : (t : Temperature) × (return_of c s ≡ Ok t)
 
+-- Both readings of an accepted sample have a temperature. So the 0 °C that stand in for a missing one (specs/Sample.antt) never enter a register or
+-- a sum.
 abbrev pub AcceptedHasTemperatures : Card → Sample → Stepped → Type 0
 AcceptedHasTemperatures c s answer = is_accepted answer.outcome ≡ true → HasTemperatures c s
 
--- A sample that comes with an index is accepted exactly where neither row 73 nor any row of the step refuses it.
+-- A sample that comes with an index is accepted exactly where 73 does not apply and no row of the step refuses it.
 abbrev pub InQuarterExactly : Meter → List ℕ → Sample → ℕ → Profiled → Type 0
 InQuarterExactly m cells s i answer = (is_accepted answer.stepped.outcome ≡ true) ↔ (NoneApplies (profile_rows cells i) × NoRowRefuses m s)
 
--- A cell other than that of the index is as it was.
+-- A call with an index leaves every other cell as it was, whether it accepts its sample or refuses it.
 abbrev pub OtherCellsStay : List ℕ → ℕ → Profiled → Type 0
 OtherCellsStay cells i answer = (k : ℕ) → (k ≡ i → ⊥) → cell_at answer.cells k ≡ cell_at cells k
 
--- An accepted heat sample raises its cell by exactly what it raises the heat register.
+-- An accepted heat sample raises the cell of its index and the heat register by the same mJ, its heat rounded down.
 abbrev pub CellAsRegister : Meter → List ℕ → Sample → ℕ → Profiled → Type 0
 CellAsRegister m cells s i answer =
     let heat = floored (sample_heat m.card s) in
@@ -67,79 +72,85 @@ CellAsRegister m cells s i answer =
 
 -- ---- lists of calls from a fresh meter
 
--- The register theorem. For every accepted card, every edition, every list of calls from the fresh meter, refused ones included, and each of the two
--- registers: with the sum of its own samples' heat in exact fractions, the register is not above the sum, not below it by more than 1 mJ for each own
--- sample with a volume, and not below it by more than a two-thousandth of the sum. A call is one of the step or one with a quarter's index.
+-- The register theorem. For every card that is allowed, every edition, every list of calls from the fresh meter of the two, and each of the two
+-- registers: what the register holds at the end is not above its exact sum; it is not below the sum by more than 1 mJ for each of its own samples
+-- that has a volume; and it is not below the sum by more than a two-thousandth of the sum. A call is one of `step`, or one of `step_in_quarter`
+-- with any cells and any index; refused calls belong to the list, and the list may be empty.
 abbrev pub RegisterBounds : Type 0
 RegisterBounds =
     (c : Card) (e : ℕ) (m : Meter) → fresh_of c e ≡ Ok m → (ks : List Mark) (z : Meter) → Calls m ks z → (r : Register) →
     WithinBounds (register_of r z) (allowance_of r c ks) (sum_of r c ks)
 
--- A sample is a register's own exactly where it was accepted and its temperatures are that register's: every accepted sample is exactly one register's, and
--- a refused one none's.
+-- No accepted sample is left out, and none counts twice: each is one register's own, the one that its temperatures tell, and not the other's. A
+-- refused sample is no register's own.
 abbrev pub OwnExactly : Type 0
 OwnExactly = (r : Register) (c : Card) (k : Mark) → (is_own r c k ≡ true) ↔ ((k.accepted ≡ true) × (r ≡ own_register c k.sample))
 
--- The theorem speaks of every list of askings: calls exist that ask just these, they leave marks of these samples,
+-- The register theorem speaks of everything that a caller can ask, and of nothing else. Whatever a caller asks, in any order and from any meter,
+-- there are calls in which just this is asked;
 abbrev pub CallsExist : Type 0
 CallsExist = (m : Meter) (qs : List Asking) → (calls : Calls m (marks_asked m qs) (last_asked m qs)) × (asked_of calls ≡ qs)
 
+-- their marks are of just these samples, in their order;
 abbrev pub Given : Type 0
 Given = (m : Meter) (qs : List Asking) → map (λ (k : Mark). k.sample) (marks_asked m qs) ≡ map sample_asked qs
 
--- and the marks and the last meter of any calls are the only ones that what was asked in them can lead to.
+-- whatever calls there are, what was asked in them leaves no other marks
 abbrev pub OnlyMarks : Type 0
 OnlyMarks = (m : Meter) (ks : List Mark) (z : Meter) (calls : Calls m ks z) → ks ≡ marks_asked m (asked_of calls)
 
+-- and leads to no other meter.
 abbrev pub OnlyLast : Type 0
 OnlyLast = (m : Meter) (ks : List Mark) (z : Meter) (calls : Calls m ks z) → z ≡ last_asked m (asked_of calls)
 
--- every accepted sample of a list is this register's own
+-- Every accepted sample of a list is this register's own.
 abbrev pub AllOwn : Register → Card → List Mark → Type 0
 AllOwn r c [] = Unit {0}
 AllOwn r c (k ∷ ks) = (k.accepted ≡ true → is_own r c k ≡ true) × AllOwn r c ks
 
--- The heat register alone counts, in an edition that counts no cold: every accepted sample is its own, and the cold register's sum and its allowed
--- millijoules are 0.
+-- The heat register alone counts: every accepted sample is its own, and the cold register's exact sum and allowance are 0.
 pub record HeatAlone (c : Card) (ks : List Mark) : Type 0 where
   pub own : AllOwn Heat c ks
   pub cold_sum : sum_of Cold c ks ≡ nothing
   pub cold_allowance : allowance_of Cold c ks ≡ 0
 
+-- In an edition that counts no cold, which is 1 or 2, the heat register alone counts, whatever the calls: its exact sum leaves no accepted sample
+-- out.
 abbrev pub HeatOnly : Type 0
 HeatOnly =
     (c : Card) (e : ℕ) (m : Meter) → fresh_of c e ≡ Ok m → counts_cold e ≡ false → (ks : List Mark) (z : Meter) → Calls m ks z → HeatAlone c ks
 
--- what the accepted samples of a list add up to, each giving so much
+-- What the accepted samples of a list add up to, where f tells what a sample gives.
 abbrev pub total_of : (Sample → ℕ) → List Mark → ℕ
 total_of f [] = 0
 total_of f (k ∷ ks) = cond k.accepted (f k.sample) 0 + total_of f ks
 
--- the seconds of the accepted samples above q_s
+-- The seconds of the accepted samples of a list whose flow was above qs.
 abbrev pub kept_in : Card → List Mark → ℕ
 kept_in c ks = total_of (kept_of c) ks
 
--- The accepted count is that of the accepted samples,
+-- The totals are those of the accepted samples. After any calls the accepted count is how many they are,
 abbrev pub AcceptedCount : Type 0
 AcceptedCount =
     (c : Card) (e : ℕ) (m : Meter) → fresh_of c e ≡ Ok m → (ks : List Mark) (z : Meter) → Calls m ks z → z.accepted ≡ total_of (λ s. 1) ks
 
--- the volume is theirs,
+-- the volume is the sum of their volumes,
 abbrev pub VolumeTogether : Type 0
 VolumeTogether =
     (c : Card) (e : ℕ) (m : Meter) → fresh_of c e ≡ Ok m → (ks : List Mark) (z : Meter) → Calls m ks z → z.volume ≡ total_of (volume_of c) ks
 
--- and the kept seconds are those of the ones above q_s.
+-- and the kept seconds are the sum of the seconds of those whose flow was above qs.
 abbrev pub KeptSeconds : Type 0
 KeptSeconds =
     (c : Card) (e : ℕ) (m : Meter) → fresh_of c e ≡ Ok m → (ks : List Mark) (z : Meter) → Calls m ks z → z.kept_seconds ≡ kept_in c ks
 
--- what an edition lacks is zero: the kept seconds in edition 1, the cold register in editions 1 and 2
+-- The totals that an edition lacks are 0: the kept seconds in edition 1, the cold register in editions 1 and 2.
 pub record LackedZero (e : ℕ) (m : Meter) : Type 0 where
   pub seconds : keeps_seconds e ≡ false → m.kept_seconds ≡ 0
   pub cold : counts_cold e ≡ false → m.cold_register ≡ 0
 
--- a meter whose card is accepted and that row 20 does not refuse
+-- A meter that none of 10 to 18 and 20 refuses, in plain numbers: its card is allowed, its totals are within their limits, and they fit its
+-- edition. The counts may have reached their limit, which 21 refuses.
 pub record WithinLimits (m : Meter) : Type 0 where
   pub card : first_of (card_rows m.card) ≡ Ok tt
   pub registers : (r : Register) → register_of r m ≤ largest_register
@@ -149,32 +160,34 @@ pub record WithinLimits (m : Meter) : Type 0 where
   pub kept : m.kept_seconds ≤ most_seconds * m.accepted
   pub lacked : LackedZero m.edition m
 
--- Registers, volume and counts never pass their limits along the calls, nor the kept seconds theirs.
+-- After any calls the meter's card is allowed, its totals are within their limits, and they fit its edition.
 abbrev pub StaysWithinLimits : Type 0
 StaysWithinLimits =
     (c : Card) (e : ℕ) (m : Meter) → fresh_of c e ≡ Ok m → (ks : List Mark) (z : Meter) → Calls m ks z → WithinLimits z
 
--- What the edition lacks stays zero.
+-- After any calls the totals that the edition lacks are 0.
 abbrev pub LackedStaysZero : Type 0
 LackedStaysZero =
     (c : Card) (e : ℕ) (m : Meter) → fresh_of c e ≡ Ok m → (ks : List Mark) (z : Meter) → Calls m ks z → LackedZero e z
 
--- So after any calls the step accepts a sample, or refuses it with 21 or with a number from 30 on, which of its rows only the sample's have.
+-- So a meter after calls is refused for its card or its state with 21 alone: the step accepts any further sample, or refuses it with 21, or with a
+-- number from 30 on, which only a sample's own rows have.
 abbrev pub NoOtherRefusal : Type 0
 NoOtherRefusal =
     (c : Card) (e : ℕ) (m : Meter) → fresh_of c e ≡ Ok m → (ks : List Mark) (z : Meter) → Calls m ks z → (s : Sample) →
     let n = refusal_number (step_of z s).outcome in
     (n ≡ 0) ⊎ ((n ≡ 21) ⊎ (30 ≤ n))
 
--- how many calls of a list of askings, from a meter on, are refused neither by 21 nor by 73
+-- A call is counted unless it is refused with 21 or 73: 1 for it, and otherwise 0;
 abbrev pub counts_of : Result Unit Refusal → ℕ
 counts_of outcome = cond (eqb (refusal_number outcome) 21 || eqb (refusal_number outcome) 73) 0 1
 
+-- and how many calls are counted of a list of askings, from a meter on.
 abbrev pub counted_of : Meter → List Asking → ℕ
 counted_of m [] = 0
 counted_of m (q ∷ qs) = counts_of (answer_of m q).outcome + counted_of (answer_of m q).meter qs
 
--- Accepted plus refused is that number.
+-- After any calls the accepted and the refused count are together the number of the calls, but for those that were refused with 21 or 73.
 abbrev pub Counted : Type 0
 Counted =
     (c : Card) (e : ℕ) (m : Meter) → fresh_of c e ≡ Ok m → (ks : List Mark) (z : Meter) (calls : Calls m ks z) →
@@ -182,7 +195,7 @@ Counted =
 
 -- ---- two editions
 
--- a meter's state under an edition's number, with this in the cold register
+-- A meter with another edition's number and with so many mJ of cold. Its other fields stay.
 abbrev pub under_edition : ℕ → ℕ → Meter → Meter
 under_edition e cold m = record {
   card = m.card;
@@ -195,16 +208,17 @@ under_edition e cold m = record {
   cold_register = cold;
 }
 
--- and with what stands in its own
+-- The same with the cold that it has.
 abbrev pub with_edition : ℕ → Meter → Meter
 with_edition e m = under_edition e m.cold_register m
 
--- an answer, its meter changed so
+-- An answer whose meter is changed by f.
 abbrev pub changed : (Meter → Meter) → Stepped → Stepped
 changed f a = record { meter = f a.meter; outcome = a.outcome }
 
--- A sample whose supply is not below its return is answered in edition 3 as in edition 2: any meter of edition 3 whose cold register keeps its limit
--- answers as the meter of edition 2 that has the same other fields and no cold, and its cold register stays as it was.
+-- Edition 3 treats heat as edition 2 does. Take a sample whose supply is not colder than its return, and a meter of edition 3 whose cold register
+-- is within its limit. It answers as a meter of edition 2 with no cold and the same in all other fields: with the same outcome, and with the same
+-- meter afterwards but for the edition and the cold register, which stays as it was.
 abbrev pub HeatAsInEdition2 : Type 0
 HeatAsInEdition2 =
     (m : Meter) (cold : ℕ) (s : Sample) → cold ≤ largest_register → is_colder (ts m.card s) (tr m.card s) ≡ false →
@@ -212,29 +226,31 @@ HeatAsInEdition2 =
 
 -- ---- the calls of a day
 
--- From zero cells and any meter, each call being given the meter and the cells that the one before it returned, the cells together are what the heat
--- register grew by: they and what it held at the start are what it holds at the end.
+-- The cells of a day tell where the heat register's growth came from. Begin with 96 zeros and any meter, and let each call go on from the meter and
+-- the cells of the call before: then what the cells hold at the end, all together, and what the heat register held at the start add up to what it
+-- holds at the end.
 abbrev pub CellsTogether : Type 0
 CellsTogether = (m z : Meter) (qs : List InQuarter) (cells : List ℕ) → DayCalls m zero_cells qs z cells → sum cells + m.heat_register ≡ z.heat_register
 
--- No cell passes the register's limit along such calls,
+-- In such a day no cell is ever above the limit of a register;
 abbrev pub CellsWithinLimit : Type 0
 CellsWithinLimit = (m z : Meter) (qs : List InQuarter) (cells : List ℕ) → DayCalls m zero_cells qs z cells → (k : ℕ) → cell_at cells k ≤ largest_register
 
--- so that the next one gets 73 exactly for an index above 95, and never for the cells.
+-- so 73 is given to the next call exactly if its index is above 95, and never because of the cells.
 abbrev pub IndexAlone : Type 0
 IndexAlone =
     (m z : Meter) (qs : List InQuarter) (cells : List ℕ) → DayCalls m zero_cells qs z cells → (s : Sample) (i : ℕ) →
     (refusal_number (in_quarter_of z cells s i).stepped.outcome ≡ 73) ↔ (95 < i)
 
--- Such calls exist for every list of samples with their index, from any meter and any cells, and lead to one meter and to one profile only,
+-- Calls of a day exist for all samples with their index, in any order, from any meter and any cells on,
 abbrev pub DayExists : Type 0
 DayExists = (m : Meter) (cells : List ℕ) (qs : List InQuarter) → DayCalls m cells qs (day_of m cells qs).0 (day_of m cells qs).1
 
+-- and they lead to one meter only, and to one set of cells.
 abbrev pub OnlyDay : Type 0
 OnlyDay = (m z : Meter) (cells last : List ℕ) (qs : List InQuarter) → DayCalls m cells qs z last → (z, last) ≡ day_of m cells qs
 
--- and they are among the calls of the register theorem: calls that ask just the same lead from the same meter to the same.
+-- The register theorem speaks of them too: calls in which the same is asked lead from the same meter to the same.
 abbrev pub DayStands : Type 0
 DayStands =
     (m z : Meter) (cells last : List ℕ) (qs : List InQuarter) → DayCalls m cells qs z last →

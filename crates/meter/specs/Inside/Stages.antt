@@ -1,5 +1,5 @@
--- What is known of a card, a state and counts that no row refuses, as the types of the step's code hold it. None of it is part of what the step means:
--- its contract is `step_of` of specs/Step.antt, for all inputs.
+-- What is known of a card, a state and a sample once their rows have not applied: the types that hold them between the stages of the step carry it.
+-- No public operation means it: what the step answers is `step_of` of specs/Step.antt, for all inputs.
 use Rattle.std.specs.Prelude.{◌≡◌, false, ◌+◌, ◌*◌, ◌^◌, ◌≤◌, ◌<◌}
 use Rattle.quantity.specs.Refusals.{outside}
 use Rattle.quantity.specs.Units.{last_degree, largest_kelvins}
@@ -14,7 +14,7 @@ use Rattle.meter.specs.declared.register.Register.{Register}
 use Rattle.meter.specs.declared.state.Meter.{Meter}
 use Rattle.meter.specs.declared.sample.Sample.{Sample}
 
--- a card that none of its rows refuses, in numbers
+-- Of a card that none of its rows refuses: the bounds of its numbers.
 pub record AcceptedCard (c : Card) : Type 0 where
   pub serial : c.serial ≤ 99999999
   pub sensor : c.sensor ≤ 1000
@@ -27,7 +27,7 @@ pub record AcceptedCard (c : Card) : Type 0 where
   pub flows : (c.qi ≤ c.qp) × (c.qp ≤ c.qs)
   pub power : (1 ≤ c.ps) × (c.ps ≤ 10 ^ 9)
 
--- and of a state
+-- Of a state that neither 20 nor 21 refuses: its totals are within their limits, with room for one count more, and fit its edition.
 pub record AcceptedState (m : Meter) : Type 0 where
   pub registers : (r : Register) → register_of r m ≤ largest_register
   pub volume : m.volume ≤ largest_volume
@@ -36,13 +36,13 @@ pub record AcceptedState (m : Meter) : Type 0 where
   pub kept : m.kept_seconds ≤ most_seconds * m.accepted
   pub lacked : LackedZero m.edition m
 
--- and a sample's counts
+-- Of a sample that neither 30 nor 31 refuses: it is short and small enough for its products to fit 64 bits.
 pub record AcceptedCounts (c : Card) (s : Sample) : Type 0 where
   pub seconds : (1 ≤ s.seconds) × (s.seconds ≤ most_seconds)
   pub pulses : s.pulses ≤ 1000000
   pub volume : volume_of c s ≤ 1000000
 
--- and what the sample adds to a meter
+-- Of a sample that 41 does not refuse: there is room for it in its own register and in the volume.
 pub record AcceptedLimits (m : Meter) (s : Sample) : Type 0 where
   pub own : register_of (own_register m.card s) m + floored (sample_heat m.card s) ≤ largest_register
   pub volume : m.volume + volume_of m.card s ≤ largest_volume
