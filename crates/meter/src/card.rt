@@ -1,4 +1,4 @@
-// The card of a meter (document 01, "Card") and its refusals.
+// The card of a meter, and the refusals 10 to 18 of one that is not allowed.
 ghost use Rattle.std.specs.Prelude.{◌≡◌, not, ◌&&◌, ◌||◌, ◌*◌, ◌^◌, ltb, leb};
 ghost use Rattle.quantity.specs.Refusals.{refusal_number, first_of, first_number};
 ghost use Rattle.quantity.specs.Units.{last_degree, largest_kelvins};
@@ -7,36 +7,40 @@ ghost use Rattle.meter.specs.Card.{fields_of, card_rows};
 use platinum::Sensor;
 use quantity::{LARGEST_KELVINS, LAST_DEGREE, Refusal, first_refusal, is_outside};
 
-/// How many fields a card has.
+/// How many numbers a card has.
 pub const CARD_FIELDS: usize = 12;
 
-/// What is fixed about a meter when it is built in, in the order of line C. Any content can stand here, in the place and the sensor too: a rule of
-/// the project, by which what crosses a crate's border is total. `refusal` tells what is wrong with a card.
+/// What is fixed about a meter when it is built in: the numbers of line C, in its order (docs/FORMAT.md, "Line C: the meter's card"). Any number of
+/// 64 bits may stand in any field, in place and sensor too; `Card::refusal` tells what is wrong with a card.
 #[derive(Clone, Copy, Debug, PartialEq, Eq)]
 pub struct Card {
-    /// the meter's serial number
+    /// the meter's serial number, from 1 to 99999999
     pub serial: u64,
-    /// where volume is measured: 1 in the supply, 2 in the return
+    /// where the volume is measured: 1 in the supply, 2 in the return
     pub place: u64,
-    /// the platinum sensors' resistance at 0 °C, in ohm: 100, 500 or 1000 (IEC 60751)
+    /// the resistance of both platinum sensors at 0 °C, in ohm: 100, 500 or 1000 (IEC 60751)
     pub sensor: u64,
-    /// mL for each pulse of the flow sensor
+    /// the volume that one pulse of the flow sensor stands for, in mL: 1 to 100000
     pub ml_per_pulse: u64,
-    /// the temperature range's two limits, in whole °C (OIML R 75)
+    /// Θmin, the lower limit of the temperatures (OIML R 75-1), in whole °C: below Θmax
     pub theta_min: u64,
+    /// Θmax, their upper limit, in whole °C: at most 180
     pub theta_max: u64,
-    /// the temperature difference's two limits, in whole K
+    /// Δmin, the lower limit of the temperature difference (OIML R 75-1), in whole K: 1, 2 or 3
     pub delta_min: u64,
+    /// Δmax, its upper limit, in whole K: 10 times Δmin to 180
     pub delta_max: u64,
-    /// the lowest, the permanent and the highest flow-rate, in mL/h
+    /// qi, the lower limit of the flow rate, in mL/h: 1 to qp
     pub qi: u64,
+    /// qp, the permanent flow rate, in mL/h: qi to qs
     pub qp: u64,
+    /// qs, the upper limit of the flow rate, in mL/h: qp to 10^9
     pub qs: u64,
-    /// the upper limit of the thermal power, in W
+    /// Ps, the upper limit of the thermal power, in W: 1 to 10^9
     pub ps: u64,
 }
 
-/// The card of twelve numbers: the one place of this crate that builds a card.
+/// The card of these numbers, in the order of line C, whatever they are. This is the one place of the crate that builds a card.
 impl From<[u64; CARD_FIELDS]> for Card {
     ghost from_gives = { λ f c. fields_of c ≡ f };
 
@@ -72,7 +76,7 @@ impl From<[u64; CARD_FIELDS]> for Card {
     }
 }
 
-/// And a card's twelve numbers.
+/// A card's numbers, in the order of line C.
 impl From<Card> for [u64; CARD_FIELDS] {
     ghost from_gives = { λ c f. f ≡ fields_of c };
 
@@ -96,7 +100,8 @@ impl From<Card> for [u64; CARD_FIELDS] {
 }
 
 impl Card {
-    /// The first of 10 to 18 whose condition holds of the card, in that order, or nothing for an accepted one.
+    /// The first of 10 to 18 whose condition holds of the card, or nothing for a card that is allowed. Every field is tested
+    /// (docs/FORMAT.md, "Line C: the meter's card").
     #[tactic(auto, unfolding(crate::specs::Card::card_rows))]
     pub fn refusal(self) -> Result<(), Refusal>
         ensures answer { result ≡ first_of (card_rows self) }
@@ -121,7 +126,7 @@ impl Card {
         self.theta_max <= self.theta_min || LAST_DEGREE < self.theta_max
     }
 
-    // Ten times the least difference can pass 64 bits, so the largest one is divided instead.
+    // Ten times the smallest difference can pass 64 bits, so the largest one is divided instead.
     fn is_delta_max_refused(self) -> bool
         ensures { result ≡ (ltb self.delta_max (10 * self.delta_min) || ltb largest_kelvins self.delta_max) }
     {

@@ -1,4 +1,4 @@
-// The fresh meter (document 01, "Card"; document 02, request 2).
+// The fresh meter of a card and an edition.
 ghost use Rattle.std.specs.Prelude.{◌≡◌};
 ghost use Rattle.quantity.specs.Refusals.{refusal_number, first_number};
 ghost use Rattle.meter.specs.State.{fresh_rows, fresh_of};
@@ -9,7 +9,8 @@ use crate::edition::is_other_edition;
 use crate::state::Meter;
 use quantity::{Refusal, first_refusal};
 
-/// The fresh meter of an accepted card in an edition, with zeros; refused by the card's first row, 10 to 18, and then by 20 for another edition.
+/// The meter of a card and an edition with all six totals at 0. Refuses a card that is not allowed with the first of 10 to 18 whose condition
+/// holds, and then with 20 an edition other than 1, 2 and 3 (docs/OPERATIONS.md, "The meter's state").
 pub fn fresh(card: Card, edition: u64) -> Result<Meter, Refusal>
     ensures answer { result ≡ fresh_of card edition }
     ensures number { refusal_number result ≡ first_number (fresh_rows card edition) }
@@ -18,7 +19,7 @@ pub fn fresh(card: Card, edition: u64) -> Result<Meter, Refusal>
     made(card, edition)
 }
 
-// The fresh meter by its equation alone, as `taken` of the step is.
+// The fresh meter by its equation alone: what follows from it is proved once, where `fresh` promises it.
 #[tactic(auto, using(quantity::proofs::Rows::parts), unfolding(crate::specs::State::fresh_of))]
 fn made(card: Card, edition: u64) -> Result<Meter, Refusal>
     ensures { result ≡ fresh_of card edition }

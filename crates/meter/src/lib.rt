@@ -1,10 +1,10 @@
-// The meter: its card, its state, and the step that takes one sample (document 01, "Card" and "Meter's step"), by edition (document 02,
-// requests 2 and 5), also with the day profile (request 7).
+// The meter: its card, its state by edition, the step that takes one sample, and the day profile (docs/FORMAT.md and docs/OPERATIONS.md).
 #![tactic(auto)]
 
 mod card;
 mod edition;
 mod fresh_meter;
+/// What is proved of whole lists of calls.
 pub mod laws;
 mod limits;
 mod measurement;

@@ -1,5 +1,5 @@
-// The rows of what a sample would add, and the meter that an accepted one leads to (document 01, "Meter's step" and the row "Sample"; document
-// 02, requests 2 and 5).
+// The last rows of a sample, which test what it would add, and the meter after an accepted one. Both functions are given the sample's heat: their
+// contracts require it, and that of `heat` promises it.
 ghost use Rattle.std.specs.Prelude.{◌≡◌};
 ghost use Rattle.quantity.specs.Fractions.{floored};
 ghost use Rattle.quantity.specs.Refusals.{first_of};
@@ -12,7 +12,6 @@ use crate::register::Register;
 use crate::state::{LARGEST_REGISTER, LARGEST_VOLUME, Meter};
 use quantity::{Refusal, first_refusal};
 
-// That the heat is the sample's stands in the contracts of these two and of `heat`: a struct for the one number would be no plainer.
 impl Measurement {
     // Rows 40 and 41. A sum that is capped where it passes 64 bits passes its limit as well.
     #[tactic(auto, unfolding(crate::specs::Step::limit_rows))]
@@ -29,7 +28,7 @@ impl Measurement {
         ])
     }
 
-    // The meter with the accepted sample's volume and kept seconds, and its heat in the register whose own it is.
+    // The meter with the accepted sample's volume and kept seconds, and with its heat or cold in the sample's own register.
     #[tactic(auto, using(crate::proofs::Accepted::kept_at_most))]
     pub(crate) fn added(self, heat: u64) -> Meter
         requires heat { heat ≡ floored (sample_heat self.usable.meter.card self.sample) }

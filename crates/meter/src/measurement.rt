@@ -1,4 +1,4 @@
-// A sample of a meter with its volume and its temperatures, and what it gives (document 01, "Meter's step" and the row "Sample").
+// A sample of a meter with its volume and its two temperatures, and what follows from them: the flow, the kept seconds, its own register, its heat.
 ghost use Rattle.std.specs.Prelude.{◌≡◌, ◌++◌, IfOk, Ok};
 ghost use Rattle.std.specs.Result.{result_and};
 ghost use Rattle.quantity.specs.Fractions.{floored};
@@ -16,8 +16,8 @@ use crate::sample::Sample;
 use crate::usable::Usable;
 use quantity::{Refusal, Role, Temperature};
 
-// A sample of a meter, with its volume and its two temperatures. No row of its counts refuses it, so that its numbers are small and their
-// products fit.
+// A sample of a meter, with its volume in mL and its two temperatures. Neither 30 nor 31 refuses it, so that its numbers are small and their
+// products fit 64 bits.
 #[derive(Clone, Copy)]
 pub(crate) struct Measurement {
     pub(crate) usable: Usable,
@@ -51,7 +51,7 @@ impl Measurement {
         })
     }
 
-    // Whether the volume flowed above q_s: exactly at q_s it did not.
+    // Whether the sample's average flow is above qs; one that equals qs is not.
     #[tactic(auto, unfolding(crate::specs::Step::is_above_qs))]
     pub(crate) fn is_above_qs(self) -> bool
         ensures { result ≡ is_above_qs self.usable.meter.card self.sample }
@@ -78,7 +78,7 @@ impl Measurement {
         Register::by(self.supply_temperature, self.return_temperature)
     }
 
-    // The floored heat or cold in mJ. Of such a sample the water's operation refuses nothing.
+    // Its heat or cold in mJ, rounded down. Of such a sample the water's operation refuses nothing.
     #[tactic(auto, using(crate::proofs::Heats::of_sample))]
     pub(crate) fn heat(self) -> Result<u64, Refusal>
         ensures { result ≡ Ok (floored (sample_heat self.usable.meter.card self.sample)) }
@@ -92,7 +92,7 @@ impl Measurement {
     }
 }
 
-// The temperature of a reading, or the refusal of one that has none.
+// The temperature of a reading, or the refusal of one that has none, by the pipe whose reading it is.
 #[tactic(auto, unfolding(quantity::specs::Refusals::first_of))]
 fn temperature(role: Role, card: Card, reading: u64) -> Result<Temperature, Refusal>
     ensures rows { result_and result (Ok tt) ≡ first_of (end_rows role (temperature_of card.sensor reading)) }

@@ -1,4 +1,4 @@
-// The day profile by quarter hours (document 02, request 7): the step for a sample that comes with its quarter's index.
+// The day profile by quarter hours: the step for a sample that comes with the index of its quarter.
 ghost use Rattle.std.specs.Prelude.{◌≡◌, ◌++◌, IfOk, Ok, ltb};
 ghost use Rattle.std.specs.List.{list_any};
 ghost use Rattle.std.specs.Result.{result_and};
@@ -13,26 +13,29 @@ use crate::state::{LARGEST_REGISTER, Meter};
 use crate::stepping::{Stepped, step};
 use quantity::{Refusal, first_refusal};
 
-/// How many quarters of an hour a day has.
+/// How many quarters of an hour a day has, and how many cells a profile.
 pub const QUARTERS: usize = 96;
 
-/// The step's answer, or 73 with the meter unchanged, and the cells after it, in mJ.
+/// What a call with an index answers.
 #[derive(Clone, Copy, Debug, PartialEq, Eq)]
 pub struct Profiled {
+    /// the step's answer, or the unchanged meter and 73
     pub stepped: Stepped,
+    /// the cells afterwards, in mJ
     pub cells: [u64; QUARTERS],
 }
 
-/// The cells at the start of a day: 96 zeros, in mJ.
+/// The cells before a day's first sample, in mJ: 96 zeros (docs/OPERATIONS.md, "The day profile").
 pub fn empty_profile() -> [u64; QUARTERS]
     ensures { result ≡ zero_cells }
 {
     [0; QUARTERS]
 }
 
-/// Takes one sample with the index of its quarter, 0 to 95. Refused by 73, for another index or a cell above the register's limit, meter and cells
-/// are unchanged. Otherwise the step answers, and an accepted heat sample adds its floored heat in mJ to the cell of its index. A cold sample and a
-/// refused one add to no cell.
+/// Takes one sample together with a day's cells in mJ and the index of the sample's quarter, 0 to 95 (docs/OPERATIONS.md, "The day profile").
+/// Refuses with 73, before all else, an index above 95 or a cell above 999999999999999999 mJ; meter and cells are then unchanged. Otherwise the
+/// answer is that of `step`, with its refusals, and an accepted heat sample adds its heat in mJ, rounded down, to the cell of the index. Cold and
+/// refused samples add to no cell.
 pub fn step_in_quarter(m: Meter, cells: [u64; QUARTERS], s: Sample, index: u64) -> Profiled
     ensures answer { result ≡ in_quarter_of m cells s index }
     ensures number { refusal_number result.stepped.outcome ≡ first_number (profile_rows cells index ++ (card_and_state_rows m ++ sample_rows m s)) }
@@ -43,7 +46,7 @@ pub fn step_in_quarter(m: Meter, cells: [u64; QUARTERS], s: Sample, index: u64) 
     taken_in_quarter(m, cells, s, index)
 }
 
-// The call by its equation alone, as `taken` of the step is.
+// The call by its equation alone: what follows from it is proved once, where `step_in_quarter` promises it.
 #[tactic(auto, unfolding(crate::specs::Profile::in_quarter_of))]
 fn taken_in_quarter(m: Meter, cells: [u64; QUARTERS], s: Sample, index: u64) -> Profiled
     ensures { result ≡ in_quarter_of m cells s index }
@@ -60,7 +63,7 @@ fn taken_in_quarter(m: Meter, cells: [u64; QUARTERS], s: Sample, index: u64) -> 
     }
 }
 
-// Cells and a quarter's index that row 73 does not refuse, so that the index is that of a cell, and the cells are small.
+// Cells and an index that 73 does not refuse, so that the index is that of a cell, and the cells are small.
 #[derive(Clone, Copy)]
 struct Quarter {
     cells: [u64; QUARTERS],
@@ -80,7 +83,8 @@ impl Quarter {
         })
     }
 
-    // The step's answer, and the cells after it. The heat register grows by what an accepted heat sample adds to its cell, and by nothing otherwise.
+    // The step's answer, and the cells after it. The heat register grows by what an accepted heat sample adds to its cell, and by nothing
+    // otherwise, so that its growth is what to add.
     #[tactic(auto, using(crate::proofs::Quarters::not_below, crate::proofs::Quarters::answer_is))]
     fn take(self, m: Meter, s: Sample) -> Profiled
         ensures { result ≡ by_profile m self.cells s self.index (Ok tt) }

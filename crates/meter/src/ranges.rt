@@ -1,4 +1,4 @@
-// The rows of a sample's ranges, by its meter's card and edition (document 01, the row "Sample"; document 02, requests 2 and 5).
+// The rows of a sample's ranges, by its meter's card and edition.
 ghost use Rattle.std.specs.Prelude.{◌≡◌};
 ghost use Rattle.quantity.specs.Refusals.{first_of};
 ghost use Rattle.meter.specs.Step.{outside_theta, range_rows};
@@ -8,8 +8,8 @@ use crate::measurement::Measurement;
 use quantity::{Difference, Refusal, Temperature, Unit, first_refusal};
 
 impl Measurement {
-    // Rows 34 to 39. A supply temperature below that of the return is refused in an edition that does not count cold, and flow above q_s in one
-    // that does not keep the seconds of such a sample.
+    // Rows 34 to 39. A supply colder than its return is refused only in an edition that counts no cold, and a flow above qs only in one that does
+    // not keep the seconds of such a sample.
     #[tactic(auto, unfolding(crate::specs::Step::range_rows))]
     pub(crate) fn range_refusal(self) -> Result<(), Refusal>
         ensures { result ≡ first_of (range_rows self.usable.meter.edition self.usable.meter.card self.sample) }

@@ -1,14 +1,16 @@
-// The registers of a meter: heat (document 01, "Card") and cold (document 02, request 5).
+// The registers of a meter, heat and cold: which one a sample belongs to, and what stands in it.
 ghost use Rattle.std.specs.Prelude.{◌≡◌};
 ghost use Rattle.meter.specs.Register.{register_of, register_by};
 
 use crate::state::Meter;
 use quantity::Temperature;
 
-/// Which register is meant: that of heat or that of cold, each in mJ.
+/// Which register is meant, each in mJ (docs/OPERATIONS.md, "The registers' bounds").
 #[derive(Clone, Copy, Debug, PartialEq, Eq)]
 pub enum Register {
+    /// the heat of accepted samples whose supply is not colder than their return
     Heat,
+    /// the cold of those whose supply is colder than their return, which edition 3 alone accepts
     Cold,
 }
 

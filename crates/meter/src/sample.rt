@@ -1,4 +1,4 @@
-// A sample, and the rows that refuse it by its counts alone (document 01, "Meter's step" and the row "Sample").
+// A sample, and the rows that refuse it by its counts alone.
 ghost use Rattle.std.specs.Prelude.{◌≡◌};
 ghost use Rattle.quantity.specs.Refusals.{first_of};
 ghost use Rattle.meter.specs.Sample.{sample_numbers};
@@ -11,19 +11,21 @@ use quantity::{Refusal, first_refusal, is_outside};
 /// How many numbers a sample has.
 pub const SAMPLE_FIELDS: usize = 4;
 
-/// What the flow sensor and the temperature sensor pair gave in some seconds. Any content can stand here: the step refuses what it cannot count.
+/// What the flow sensor and the temperature sensor pair gave in some seconds: the numbers of line S, in its order
+/// (docs/FORMAT.md, "Line S: a sample"). Any number of 64 bits may stand in any field; the step refuses what it cannot count.
 #[derive(Clone, Copy, Debug, PartialEq, Eq)]
 pub struct Sample {
-    /// the flow sensor's pulses
+    /// how many pulses the flow sensor gave: at most 1000000 in an accepted sample
     pub pulses: u64,
-    /// how long the sample took
+    /// how long the sample took, in s: 1 to 3600 in an accepted sample
     pub seconds: u64,
-    /// the two sensors' resistances, in 0.0001 ohm
+    /// the resistance of the sensor in the supply, in 0.0001 ohm
     pub supply_reading: u64,
+    /// the resistance of the sensor in the return, in 0.0001 ohm
     pub return_reading: u64,
 }
 
-/// The sample of four numbers.
+/// The sample of these numbers, in the order of line S, whatever they are.
 impl From<[u64; SAMPLE_FIELDS]> for Sample {
     ghost from_gives = { λ f s. sample_numbers s ≡ f };
 
@@ -38,7 +40,7 @@ impl From<[u64; SAMPLE_FIELDS]> for Sample {
     }
 }
 
-/// And a sample's four numbers.
+/// A sample's numbers, in the order of line S.
 impl From<Sample> for [u64; SAMPLE_FIELDS] {
     ghost from_gives = { λ s f. f ≡ sample_numbers s };
 

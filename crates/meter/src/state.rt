@@ -1,4 +1,4 @@
-// The state of a meter (document 01, "Card"; document 02, requests 2 and 5) and its refusals.
+// The state of a meter, and the refusals 20 and 21.
 ghost use Rattle.std.specs.Prelude.{◌≡◌, ◌||◌};
 ghost use Rattle.quantity.specs.Refusals.{first_of};
 ghost use Rattle.meter.specs.Step.{card_and_state_rows};
@@ -8,28 +8,35 @@ use crate::card::Card;
 use crate::edition::{counts_cold, is_other_edition, keeps_seconds};
 use quantity::{Refusal, first_refusal};
 
-// The limits of rows 20 and 21.
+// The limits of rows 20 and 21: of each register in mJ, of the volume in mL, and of accepted and refused samples together.
 pub(crate) const LARGEST_REGISTER: u64 = 999999999999999999;
 
 pub(crate) const LARGEST_VOLUME: u64 = 999999999999999;
 
 pub(crate) const LARGEST_COUNT: u64 = 1000000000000;
 
-// The most seconds of a sample (row 30), and so the most that are kept for each accepted one (row 20).
+// The longest time of a sample in s (row 30), and so the most seconds that are kept for each accepted one (row 20).
 pub(crate) const MOST_SECONDS: u64 = 3600;
 
-/// A meter: its card, its edition, the heat register in mJ, the volume in mL, how many samples were accepted and refused, the seconds of
-/// the accepted ones that flowed above q_s, and the cold register in mJ. Any content can stand here; the step refuses a card or a state that
-/// a row from 10 to 21 meets.
+/// A meter: its card, its edition and its six totals (docs/OPERATIONS.md, "The meter's state"). Any number of 64 bits may stand in any field; the
+/// step refuses such a card with 10 to 18 and such a state with 20 or 21.
 #[derive(Clone, Copy, Debug, PartialEq, Eq)]
 pub struct Meter {
+    /// what is fixed about the meter
     pub card: Card,
+    /// 1, 2 or 3
     pub edition: u64,
+    /// the heat of the accepted samples whose supply was not colder than their return, in mJ: at most 10^18−1
     pub heat_register: u64,
+    /// the water of all accepted samples, in mL: at most 10^15−1
     pub volume: u64,
+    /// how many samples were accepted
     pub accepted: u64,
+    /// how many samples a row of their own refused; together with the accepted ones at most 10^12
     pub refused: u64,
+    /// the seconds of the accepted samples whose flow was above qs, in s: 0 in edition 1
     pub kept_seconds: u64,
+    /// the cold of the accepted samples whose supply was colder than their return, in mJ: at most 10^18−1, and 0 in editions 1 and 2
     pub cold_register: u64,
 }
 
@@ -54,7 +61,7 @@ impl Meter {
         ])
     }
 
-    // Whether row 20 meets the meter, its two counts being count together.
+    // Whether row 20 meets the meter, whose two counts together are `count`.
     fn is_refused(self, count: u64) -> bool
         ensures { result ≡ (passes_limit_by self count || misfits_edition self) }
     {
@@ -70,8 +77,8 @@ impl Meter {
             || LARGEST_COUNT < count
     }
 
-    // Another edition, kept seconds that cannot be, or a number in a field that the edition lacks. The limit of the kept seconds can pass 64
-    // bits: capped there, it is not below any.
+    // Whether edition and totals cannot belong together: there is no such edition, or there are more kept seconds than there can be, or a total is
+    // not 0 that the edition lacks. The limit of the kept seconds can pass 64 bits: capped there, it is still below no number of 64 bits.
     fn misfits_edition(self) -> bool
         ensures { result ≡ misfits_edition self }
     {

@@ -1,5 +1,5 @@
-// The meter's step (document 01, "Meter's step"), in the order of the refusal table: card and state, then the sample's counts, its
-// readings, its ranges, and what it would add.
+// The step of a meter, stage by stage in the order of the rows: card and state, then the sample's counts, its readings, its ranges, and what it
+// would add.
 ghost use Rattle.std.specs.Prelude.{◌≡◌, ◌++◌, Ok};
 ghost use Rattle.std.specs.Result.{result_and};
 ghost use Rattle.quantity.specs.Refusals.{refusal_number, first_of, first_number};
@@ -13,16 +13,21 @@ use crate::state::Meter;
 use crate::usable::Usable;
 use quantity::Refusal;
 
-/// The meter after a step, and no refusal or the refusal.
+/// What the step answers.
 #[derive(Clone, Copy, Debug, PartialEq, Eq)]
 pub struct Stepped {
+    /// the meter afterwards
     pub meter: Meter,
+    /// nothing where the sample was accepted, and otherwise what refused it
     pub outcome: Result<(), Refusal>,
 }
 
-/// Takes one sample. Refused by a row of card or state, 10 to 21, the meter is unchanged; refused by a row of the sample, 30 to 41, 70 or 71, its
-/// refused count is one more; accepted, the floored heat (OIML R 75-1, over the water of IAPWS-IF97) in mJ goes to the register whose own the sample
-/// is, the volume in mL to the volume, the seconds of one above q_s to the kept ones, and the accepted count is one more.
+/// Takes one sample (docs/FORMAT.md, "Which samples are accepted" and "Heat and cold"). Refuses with 10 to 18 for the card and with 20 or 21 for
+/// the state, which leaves the meter unchanged. Refuses a sample with 30 to 41, 70 or 71, in the order that docs/FORMAT.md gives, which adds 1 to
+/// the refused count: 30 and 31 for its seconds and its volume, 32, 70, 33 and 71 for a reading without a temperature (IEC 60751), 34 to 39 for its
+/// temperatures, their difference and its flow, 40 and 41 for what it would add. An accepted sample adds its heat or cold in mJ, rounded down
+/// (OIML R 75-1, with the water of IAPWS-IF97), to its own register, its volume in mL to the volume, 1 to the accepted count, and its seconds to
+/// the kept ones if its flow was above qs.
 pub fn step(m: Meter, s: Sample) -> Stepped
     ensures answer { result ≡ step_of m s }
     ensures number { refusal_number result.outcome ≡ first_number (card_and_state_rows m ++ sample_rows m s) }

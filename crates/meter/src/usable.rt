@@ -1,4 +1,4 @@
-// A meter that takes samples (document 01, "Meter's step").
+// A meter that can take samples.
 ghost use Rattle.std.specs.Prelude.{◌≡◌, IfOk, Ok};
 ghost use Rattle.std.specs.Result.{result_and};
 ghost use Rattle.quantity.specs.Refusals.{first_of};
