@@ -151,7 +151,7 @@ pub accepted_pair : (e : ℕ) (c : Card) (s : Sample) → NoneApplies (range_row
 unfolding range_rows
 accepted_pair e c s h = apart _ _ _ (ltb-false _ _ h.1.1.1.0)
 
--- an edition that keeps no seconds accepts no sample above q_s
+-- an edition that keeps no seconds accepts no sample whose flow is above qs
 pub accepted_flow : (e : ℕ) (c : Card) (s : Sample) → NoneApplies (range_rows e c s) → keeps_seconds e ≡ false → is_above_qs c s ≡ false
 unfolding range_rows
 accepted_flow e c s h k = not_both (keeps_seconds e) (is_above_qs c s) h.1.1.1.1.1.0 k
@@ -161,7 +161,7 @@ pub accepted_order : (e : ℕ) (c : Card) (s : Sample) → NoneApplies (range_ro
 unfolding range_rows
 accepted_order e c s h k = rw (not_both (counts_cold e) (is_colder (ts c s) (tr c s)) h.1.1.0 k) refl
 
--- a meter keeps no seconds of a sample that is not above q_s
+-- a meter keeps no seconds of a sample whose flow is not above qs
 pub kept_none : (c : Card) (s : Sample) → is_above_qs c s ≡ false → kept_of c s ≡ 0
 unfolding kept_of
 kept_none c s e = rw e refl

@@ -1,4 +1,4 @@
--- How a sample keeps the bounds of demand 3, in numbers alone.
+-- How a sample keeps the bounds of a register, in numbers alone.
 -- Assumes nothing.
 use mathlib.Core.Path.{◌≡◌, refl, ap}
 use mathlib.Core.Bool.{Bool, true, false, cond}
@@ -19,7 +19,7 @@ pub start : WithinBounds 0 0 nothing
 unfolding plus times
 start = omega arith
 
--- the bounds, once the lower number is divided out of the last one
+-- the bounds, once the denominator is divided out of the last one
 record InNumbers (r n : ℕ) (a : Fraction) : Type 0 where
   fraction : 0 < a.denominator
   not_above : r * a.denominator ≤ a.numerator

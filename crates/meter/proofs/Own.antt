@@ -40,7 +40,7 @@ not_own r other c k apart h = by k.accepted (λ a. ((own_exactly r c k).0 (h a))
     by true g = subst (λ (q : Register). is_same other q ≡ false) (g refl) apart
     by false g = refl
 
--- of a list whose accepted samples are all one register's own, the other's sum and its allowed millijoules stay as they begin
+-- of a list whose accepted samples are all one register's own, the other's sum and allowance stay as they begin
 nothing_from : (r other : Register) (c : Card) (a : Fraction) (n : ℕ) (ks : List Mark) → is_same other r ≡ false → AllOwn r c ks →
     (sum_from other c a ks ≡ a) × (allowance_from other c n ks ≡ n)
 nothing_from r other c a n [] apart h = (refl, refl)

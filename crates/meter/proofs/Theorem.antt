@@ -1,4 +1,4 @@
--- The fresh meter, and the register theorem: each register lies within its bounds of the exact sum of its own samples.
+-- The fresh meter, and the register theorem: each register lies within its bounds of its exact sum.
 -- Assumes nothing.
 use mathlib.Core.Path.{◌≡◌, refl, sym, ◌∙◌, ap, subst}
 use mathlib.Core.List.{List, [], ◌∷◌}
