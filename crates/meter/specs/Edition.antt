@@ -1,5 +1,5 @@
 -- The editions of a meter and of the file of its readings: 1, 2 and 3 (docs/FORMAT.md, "Bytes, lines and numbers"). A meter holds its edition as a
--- number, and any number may stand there; the rows refuse one that is no edition. All that an edition changes in a meter is said here, and the
+-- number, and any number may stand there; one that is no edition is refused (20). All that an edition changes in a meter is said here, and the
 -- other files ask for it by these names.
 use Rattle.std.specs.Prelude.{ℕ, Bool, leb}
 use Rattle.quantity.specs.Refusals.{outside}

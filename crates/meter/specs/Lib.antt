@@ -1,5 +1,7 @@
 -- What a meter is, what it answers, and what is proved of it. Each file reads as a page, and builds on those above it. The contracts of this crate,
--- and of those above it, cite these definitions. docs/FORMAT.md and docs/OPERATIONS.md tell the same rules in full sentences.
+-- and of those above it, cite these definitions. docs/FORMAT.md and docs/OPERATIONS.md tell the same rules in full sentences. Numbers such as 36
+-- are those of refusals (docs/OPERATIONS.md, "Refusals"), and names under `declared` are the structs and enums of src/.
+
 -- What is given: the editions, the card, and the state with its totals.
 pub mod Edition
 pub mod Card

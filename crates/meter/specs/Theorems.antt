@@ -1,7 +1,7 @@
--- The theorems about the meter. Each is a definition. The clause that promises it has its name in small letters, or the function has it that
--- promises nothing else; so has the lemma in proofs/ that proves it. First stands what is true of one answer, which its function promises, then
--- what is true of whole lists of calls, which src/laws.rt promises. In what follows a meter after calls is any that a list of calls
--- (specs/Calls.antt) leads to from a fresh one, whatever was accepted or refused in them.
+-- The theorems about the meter. Each is a definition. The clause of a contract that promises it has the same name in small letters, or the whole
+-- function has that name, if it promises nothing else; and so has the lemma in proofs/ that proves it. First stands what is true of one answer,
+-- which its function promises, then what is true of whole lists of calls, which src/laws.rt promises. Below, a meter after any calls is one that a
+-- list of calls (specs/Calls.antt) leads to from the fresh meter of an allowed card and an edition, whatever was accepted or refused on the way.
 use Rattle.std.specs.Prelude.{◌≡◌, List, [], ◌∷◌, map, true, false, cond, ◌||◌, ◌↔◌, ◌⊎◌, ℕ, ◌+◌, ◌*◌, ◌≤◌, ◌<◌, eqb, Result, Ok}
 use Rattle.std.specs.List.{sum}
 use Rattle.quantity.specs.Fractions.{floored}
@@ -86,20 +86,20 @@ RegisterBounds =
 abbrev pub OwnExactly : Type 0
 OwnExactly = (r : Register) (c : Card) (k : Mark) → (is_own r c k ≡ true) ↔ ((k.accepted ≡ true) × (r ≡ own_register c k.sample))
 
--- The register theorem speaks of everything that a caller can ask, and of nothing else. Whatever a caller asks, in any order and from any meter,
--- there are calls in which just this is asked;
+-- Everything that a caller can ask is among the calls of the register theorem: for every list of askings (specs/Run.antt), from every meter, there
+-- are calls in which just this is asked.
 abbrev pub CallsExist : Type 0
 CallsExist = (m : Meter) (qs : List Asking) → (calls : Calls m (marks_asked m qs) (last_asked m qs)) × (asked_of calls ≡ qs)
 
--- their marks are of just these samples, in their order;
+-- The marks of these calls are of the samples that were asked, in their order: none is left out, exchanged or made up.
 abbrev pub Given : Type 0
 Given = (m : Meter) (qs : List Asking) → map (λ (k : Mark). k.sample) (marks_asked m qs) ≡ map sample_asked qs
 
--- whatever calls there are, what was asked in them leaves no other marks
+-- And nothing else is among them: any calls leave just the marks that follow from what was asked in them,
 abbrev pub OnlyMarks : Type 0
 OnlyMarks = (m : Meter) (ks : List Mark) (z : Meter) (calls : Calls m ks z) → ks ≡ marks_asked m (asked_of calls)
 
--- and leads to no other meter.
+-- and lead to just the meter that follows from it.
 abbrev pub OnlyLast : Type 0
 OnlyLast = (m : Meter) (ks : List Mark) (z : Meter) (calls : Calls m ks z) → z ≡ last_asked m (asked_of calls)
 
@@ -129,17 +129,17 @@ total_of f (k ∷ ks) = cond k.accepted (f k.sample) 0 + total_of f ks
 abbrev pub kept_in : Card → List Mark → ℕ
 kept_in c ks = total_of (kept_of c) ks
 
--- The totals are those of the accepted samples. After any calls the accepted count is how many they are,
+-- After any calls the accepted count is how many samples were accepted.
 abbrev pub AcceptedCount : Type 0
 AcceptedCount =
     (c : Card) (e : ℕ) (m : Meter) → fresh_of c e ≡ Ok m → (ks : List Mark) (z : Meter) → Calls m ks z → z.accepted ≡ total_of (λ s. 1) ks
 
--- the volume is the sum of their volumes,
+-- After any calls the volume is the sum of the volumes of the accepted samples.
 abbrev pub VolumeTogether : Type 0
 VolumeTogether =
     (c : Card) (e : ℕ) (m : Meter) → fresh_of c e ≡ Ok m → (ks : List Mark) (z : Meter) → Calls m ks z → z.volume ≡ total_of (volume_of c) ks
 
--- and the kept seconds are the sum of the seconds of those whose flow was above qs.
+-- After any calls the kept seconds are the sum of the seconds of those accepted samples whose flow was above qs.
 abbrev pub KeptSeconds : Type 0
 KeptSeconds =
     (c : Card) (e : ℕ) (m : Meter) → fresh_of c e ≡ Ok m → (ks : List Mark) (z : Meter) → Calls m ks z → z.kept_seconds ≡ kept_in c ks
@@ -178,11 +178,11 @@ NoOtherRefusal =
     let n = refusal_number (step_of z s).outcome in
     (n ≡ 0) ⊎ ((n ≡ 21) ⊎ (30 ≤ n))
 
--- A call is counted unless it is refused with 21 or 73: 1 for it, and otherwise 0;
+-- 1 for an outcome other than 21 and 73, and 0 for these two.
 abbrev pub counts_of : Result Unit Refusal → ℕ
 counts_of outcome = cond (eqb (refusal_number outcome) 21 || eqb (refusal_number outcome) 73) 0 1
 
--- and how many calls are counted of a list of askings, from a meter on.
+-- How many calls of a list of askings, from a meter on, are refused neither with 21 nor with 73.
 abbrev pub counted_of : Meter → List Asking → ℕ
 counted_of m [] = 0
 counted_of m (q ∷ qs) = counts_of (answer_of m q).outcome + counted_of (answer_of m q).meter qs
@@ -208,7 +208,7 @@ under_edition e cold m = record {
   cold_register = cold;
 }
 
--- The same with the cold that it has.
+-- A meter with another edition's number. All its other fields stay, the cold register too.
 abbrev pub with_edition : ℕ → Meter → Meter
 with_edition e m = under_edition e m.cold_register m
 
@@ -226,31 +226,31 @@ HeatAsInEdition2 =
 
 -- ---- the calls of a day
 
--- The cells of a day tell where the heat register's growth came from. Begin with 96 zeros and any meter, and let each call go on from the meter and
--- the cells of the call before: then what the cells hold at the end, all together, and what the heat register held at the start add up to what it
--- holds at the end.
+-- In a day that begins with 96 zeros and any meter, the cells are, all together, what the heat register has grown by: they and what it held at the
+-- start add up to what it holds at the end. Each call goes on from the meter and the cells of the call before (specs/Day.antt).
 abbrev pub CellsTogether : Type 0
 CellsTogether = (m z : Meter) (qs : List InQuarter) (cells : List ℕ) → DayCalls m zero_cells qs z cells → sum cells + m.heat_register ≡ z.heat_register
 
--- In such a day no cell is ever above the limit of a register;
+-- In such a day no cell is ever above the limit of a register.
 abbrev pub CellsWithinLimit : Type 0
 CellsWithinLimit = (m z : Meter) (qs : List InQuarter) (cells : List ℕ) → DayCalls m zero_cells qs z cells → (k : ℕ) → cell_at cells k ≤ largest_register
 
--- so 73 is given to the next call exactly if its index is above 95, and never because of the cells.
+-- So in such a day 73 is given to the next call exactly if its index is above 95, and never because of the cells.
 abbrev pub IndexAlone : Type 0
 IndexAlone =
     (m z : Meter) (qs : List InQuarter) (cells : List ℕ) → DayCalls m zero_cells qs z cells → (s : Sample) (i : ℕ) →
     (refusal_number (in_quarter_of z cells s i).stepped.outcome ≡ 73) ↔ (95 < i)
 
--- Calls of a day exist for all samples with their index, in any order, from any meter and any cells on,
+-- The calls of a day can be made of any samples with their index, in any order, from any meter and any cells on.
 abbrev pub DayExists : Type 0
 DayExists = (m : Meter) (cells : List ℕ) (qs : List InQuarter) → DayCalls m cells qs (day_of m cells qs).0 (day_of m cells qs).1
 
--- and they lead to one meter only, and to one set of cells.
+-- They lead to one meter only, and to one set of cells.
 abbrev pub OnlyDay : Type 0
 OnlyDay = (m z : Meter) (cells last : List ℕ) (qs : List InQuarter) → DayCalls m cells qs z last → (z, last) ≡ day_of m cells qs
 
--- The register theorem speaks of them too: calls in which the same is asked lead from the same meter to the same.
+-- The calls of a day are among those of the register theorem: there are calls in its sense in which just the same is asked, and which lead from the
+-- same meter to the same.
 abbrev pub DayStands : Type 0
 DayStands =
     (m z : Meter) (cells last : List ℕ) (qs : List InQuarter) → DayCalls m cells qs z last →
