@@ -40,7 +40,7 @@ card_fields = 12
 -- 13 unless a pulse stands for 1 mL to 100 L,
 -- 14 unless Θmin is below Θmax, and Θmax at most 180 °C,
 -- 15 unless Δmin is 1, 2 or 3 K,
--- 16 unless Δmax is at least ten times Δmin (OIML R 75-1) and at most 180 K,
+-- 16 unless Δmax is at least ten times Δmin (OIML R 75-1, 7.1) and at most 180 K,
 -- 17 unless qi is at least 1 mL/h, qp not below qi, qs not below qp, and qs at most 1000 m³/h,
 -- 18 unless Ps is from 1 W to 1 GW.
 -- The fields that no formula uses, which are the serial number, qi and qp, are tested like the others.
