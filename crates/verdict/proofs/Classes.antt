@@ -1,4 +1,5 @@
--- The formulas of the other sources for a complete instrument, while the flow sensor's part is at most 5: three uses of one law over the class.
+-- The formulas by which other published rules give a complete instrument's limit, while the flow sensor's part is at most 5: three uses of one law over
+-- the class.
 -- Assumes nothing.
 use mathlib.Core.Path.{◌≡◌, sym, ap, subst}
 use mathlib.Core.Bool.{Bool, cond}

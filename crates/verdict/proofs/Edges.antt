@@ -1,4 +1,4 @@
--- The verdicts of document 01's marked (†) edges, computed by the definitions.
+-- The verdicts at the edges of the limits (`VerdictEdges`), computed by the definitions.
 -- Assumes nothing.
 use mathlib.Core.Path.{refl}
 use Rattle.quantity.specs.Refusals.{outside, first_of}

@@ -1,4 +1,4 @@
--- Where no row refuses the test point, the lower number of its limit is above zero.
+-- Where no row refuses the test point, the denominator of its limit is above zero.
 -- Assumes nothing.
 use Prim.Native.Nat.{◌<◌}
 use native.Mathlib.Omega.{arith}

@@ -1,6 +1,6 @@
--- The limit on the certificate, document 02, request 4: "Split the verdict in two: one operation gives the limit in percent as two whole
--- numbers, numerator and denominator, with no common divisor above 1, and another compares an error with any numerator and denominator,
--- reduced or not."
+-- The two operations that make up the verdict, so that a certificate can show the limit beside the pass or fail: the limit at a test point, as a
+-- fraction in lowest terms, and the comparison of an error with any limit that is given. That they answer together what the verdict answers is
+-- `FromPair` of Theorems. docs/OPERATIONS.md: "Error limits, comparison and verdict".
 use Rattle.std.specs.Prelude.{ℕ, Result, Ok}
 use Rattle.std.specs.Result.{result_and}
 use Rattle.quantity.specs.Divisors.{reduced}
@@ -13,11 +13,11 @@ use Rattle.verdict.specs.Verdict.{passes, answer}
 use Rattle.verdict.specs.declared.bench.Verdict.{Verdict}
 use Rattle.verdict.specs.declared.point.TestPoint.{TestPoint}
 
--- the limit at a test point, in lowest terms; "the first gives 50 to 54"
+-- The limit at a test point in percent, reduced: no whole number above 1 divides both its numbers. Or the first of the refusals 50 to 54.
 unfoldable pub error_limit_of : TestPoint → Result Fraction Refusal
 error_limit_of p = result_and (first_of (point_rows p)) (Ok (reduced (limit_of (figures_of p.class) p)))
 
--- the comparison of the error of the indicated value i, x being the conventional true value, with any numerator and denominator l; "the second
--- 55, also for a zero denominator"
+-- The comparison of the indicated value i's error, x being the conventional true value, with a limit of l percent, in lowest terms or not; or the
+-- refusal 55.
 unfoldable pub comparison_of : Fraction → ℕ → ℕ → Result Verdict Refusal
 comparison_of l i x = result_and (first_of (comparison_rows l i x)) (Ok (answer (passes l i x)))

@@ -1,6 +1,8 @@
--- Document 01's refusals, row "Verdict": "50 part; 51 class not 1..3, whatever the part; 52 stage; 53 Δmin not 1, 2, 3 or D
--- outside 100×Δmin..18000; 54 qp or q outside 1..10^9; 55 X zero, or I or X above 10^12−1". Document 02, request 4, of the two
--- operations that the verdict calls: "the first gives 50 to 54, the second 55, also for a zero denominator".
+-- What refuses a test point, two values and a limit that is given: the refusals 50 to 55. A row is a refusal with the condition under which it
+-- applies; rows are tried in order, and the first whose condition holds decides (`first_of` of quantity's Refusals). The limit tries the five rows of
+-- the test point, 50 to 54, all of them for every part, also those on numbers that the part's limit does not use; the comparison tries 55; the verdict
+-- tries all six.
+-- docs/OPERATIONS.md: "Error limits, comparison and verdict", and "Refusals" for each number's sentence.
 use Rattle.std.specs.Prelude.{ℕ, ◌-◌, ◌^◌, ◌≡◌, Bool, ◌||◌, List, [], ◌∷◌, ◌++◌, ltb, eqb, Ok}
 use Rattle.quantity.specs.Units.{largest_kelvins, whole_kelvins, is_smaller}
 use Rattle.quantity.specs.Refusals.{row, outside, first_of}
@@ -10,25 +12,28 @@ use Rattle.quantity.specs.declared.refusal.Row.{Row}
 use Rattle.quantity.specs.declared.units.Difference.{Difference}
 use Rattle.verdict.specs.declared.point.TestPoint.{TestPoint}
 
--- 53: Δmin is none of 1, 2, 3, or D is outside Δmin..180 K, which is 100×Δmin..18000 in hundredths
+-- 53: Δmin is none of 1, 2 and 3 K, or the temperature difference of the test is below Δmin or above 180 K. The test's is counted in hundredths of a
+-- kelvin, and so are the two ends that it is held to.
 unfoldable pub difference_outside : ℕ → Difference → Bool
 difference_outside δ d = outside δ 1 3 || is_smaller d (whole_kelvins δ) || is_smaller (whole_kelvins largest_kelvins) d
 
--- 54: qp or q is outside 1..10^9
+-- The largest flow rate, in the one unit that qp and q have.
 abbrev pub largest_flow : ℕ
 largest_flow = 10 ^ 9
 
+-- 54: one of qp and q is 0 or above the largest flow rate.
 unfoldable pub flow_outside : ℕ → ℕ → Bool
 flow_outside qp q = outside qp 1 largest_flow || outside q 1 largest_flow
 
--- 55: X is zero, or I or X is above 10^12−1
+-- The largest value that can be compared, in the one unit that the two values have.
 abbrev pub largest_value : ℕ
 largest_value = 10 ^ 12 - 1
 
+-- 55: the conventional true value x is 0, so that there is no error in percent, or x or the indicated value i is too large.
 unfoldable pub value_outside : ℕ → ℕ → Bool
 value_outside i x = eqb x 0 || ltb largest_value i || ltb largest_value x
 
--- what is asked of the test point
+-- The rows of a test point: its part, its class, its stage, its differences, its flow rates.
 abbrev pub point_rows : TestPoint → List Row
 point_rows p =
     row R.Part (outside p.part 1 4)
@@ -38,21 +43,23 @@ point_rows p =
     ∷ row R.TestFlow (flow_outside p.qp p.q)
     ∷ []
 
--- what is asked of the indicated value i and of the conventional true value x
+-- The row of the indicated value i and the conventional true value x.
 abbrev pub value_rows : ℕ → ℕ → List Row
 value_rows i x = row R.Values (value_outside i x) ∷ []
 
--- what is asked of them where they are compared with a limit: 55 "also for a zero denominator"
+-- 55 where they are compared with a limit that is given, which may be any two numbers: a denominator of 0 is no fraction, and is refused too.
 unfoldable pub incomparable : Fraction → ℕ → ℕ → Bool
 incomparable l i x = value_outside i x || eqb l.denominator 0
 
+-- The only row of such a comparison.
 abbrev pub comparison_rows : Fraction → ℕ → ℕ → List Row
 comparison_rows l i x = row R.Values (incomparable l i x) ∷ []
 
--- all six, in the table's order
+-- The rows of the verdict: those of the test point, then that of the values.
 abbrev pub verdict_rows : TestPoint → ℕ → ℕ → List Row
 verdict_rows p i x = point_rows p ++ value_rows i x
 
--- no row refuses the test point: what the theorems suppose of it, and what the code asks before it works out a limit
+-- A test point is admitted if no row refuses it. The theorems suppose this of a test point, and the code makes sure of it before it works out a
+-- limit.
 abbrev pub Admitted : TestPoint → Type 0
 Admitted p = first_of (point_rows p) ≡ Ok tt

@@ -1,4 +1,6 @@
--- What is proved of the limit, of the comparison and of the verdict. Each statement has the name of the clause or of the law that promises it.
+-- What is proved of the limit, of the comparison and of the verdict: when each gives its answer, how they hang together, and formulas and figures by
+-- which a reader can check them. Each statement has the name of the clause or of the law that promises it. I is the indicated value, X the conventional
+-- true value.
 use Rattle.std.specs.Prelude.{ℕ, ◌+◌, ◌*◌, ◌≤◌, ◌≡◌, ◌↔◌, Result, Ok, Err}
 use Rattle.quantity.specs.Divisors.{InLowestTerms}
 use Rattle.quantity.specs.Fractions.{whole, IsFraction, plus, times, AtMost, Same, Represents}
@@ -13,23 +15,24 @@ use Rattle.verdict.specs.declared.point.TestPoint.{TestPoint}
 use Rattle.verdict.specs.declared.bench.Verdict.{Verdict}
 use Rattle.verdict.specs.declared.bench.Verdict.TheVariants.{Pass, Fail}
 
--- The limit is answered exactly where no row refuses the test point, and it is the limit in percent, in lowest terms: one pair of numbers.
+-- A fraction is the answer exactly where no row refuses the test point and the fraction equals the limit and is in lowest terms. There is one such
+-- pair of numbers.
 abbrev pub LimitExactly : TestPoint → Result Fraction Refusal → Type 0
 LimitExactly p answer =
     (r : Fraction) → (answer ≡ Ok r) ↔ (Admitted p × Represents r (limit_of (figures_of p.class) p) × InLowestTerms r)
 
--- The comparison passes exactly where 55 is not given and |I−X|×100×denominator ≤ numerator×X.
+-- The comparison is a pass exactly where 55 is not given and |I − X| × 100 × denominator ≤ numerator × X, in whole numbers.
 abbrev pub ComparedExactly : Fraction → ℕ → ℕ → Result Verdict Refusal → Type 0
 ComparedExactly l i x answer =
     (answer ≡ Ok Pass) ↔ (NoneApplies (comparison_rows l i x) × (absolute_error i x * 100 * l.denominator ≤ l.numerator * x))
 
--- The verdict passes exactly where no row refuses and |I−X|×100 ≤ limit×X, in exact arithmetic.
+-- The verdict is a pass exactly where none of the six rows applies and |I − X| × 100 is at most X times the test point's limit, as fractions.
 abbrev pub PassesExactly : TestPoint → ℕ → ℕ → Result Verdict Refusal → Type 0
 PassesExactly p i x answer =
     (answer ≡ Ok Pass) ↔
     (NoneApplies (verdict_rows p i x) × AtMost (whole (absolute_error i x * 100)) (times (limit_of (figures_of p.class) p) (whole x)))
 
--- a test point at another stage
+-- The test point with another stage in place of its own.
 abbrev pub at_stage : ℕ → TestPoint → TestPoint
 at_stage s p =
     record {
@@ -42,11 +45,11 @@ at_stage s p =
       q = p.q;
     }
 
--- What passes at verification passes in service.
+-- What passes at verification passes in service, where the limit is the wider one.
 abbrev pub InService : Type 0
 InService = (p : TestPoint) (i x : ℕ) → verdict_of (at_stage 1 p) i x ≡ Ok Pass → verdict_of (at_stage 2 p) i x ≡ Ok Pass
 
--- what the limit and the comparison answer together: the comparison with the limit's pair, or the limit's refusal
+-- What the limit and the comparison answer one after the other: the comparison with the limit that was answered, or the limit's refusal.
 abbrev pub compared_with : Result Fraction Refusal → ℕ → ℕ → Result Verdict Refusal
 compared_with (Ok l) i x = comparison_of l i x
 compared_with (Err r) i x = Err r
@@ -55,28 +58,29 @@ compared_with (Err r) i x = Err r
 abbrev pub FromPair : Type 0
 FromPair = (p : TestPoint) (i x : ℕ) → compared_with (error_limit_of p) i x ≡ verdict_of p i x
 
--- Equal limits are compared alike, reduced or not.
+-- Limits that are equal as fractions are compared alike, in lowest terms or not.
 abbrev pub EqualComparisons : Type 0
 EqualComparisons = (l m : Fraction) (i x : ℕ) → IsFraction l → IsFraction m → Same l m → comparison_of l i x ≡ comparison_of m i x
 
--- Values as far above as below the conventional true value, I and 2X−I, get the same verdict. 55 may refuse one of them alone, so both are in its
--- range.
+-- An indicated value as far above X as another lies below it, the two being I and 2X − I, gets the same verdict. 55 could refuse the upper one
+-- alone, so both are supposed to be within its range.
 abbrev pub Mirrored : Type 0
 Mirrored =
     (p : TestPoint) (i j x : ℕ) → i + j ≡ 2 * x → i ≤ largest_value → j ≤ largest_value → verdict_of p i x ≡ verdict_of p j x
 
--- one formula for a complete instrument's limit: k + 4×Δmin/Δ + n/100 × qp/q
+-- The limit of a complete instrument in one formula, as other published rules for heat meters print it: k + 4 × Δmin/Δ + n/100 × qp/q.
 abbrev pub formula : ℕ → ℕ → TestPoint → Fraction
 formula k n p = plus (plus (whole k) (times (whole 4) (difference_ratio p))) (times (hundredths n) (flow_ratio p))
 
--- it is the limit of a class's complete instrument at verification while the flow sensor's part is at most 5
+-- A class has such a formula if the formula equals the limit of its complete instrument at verification, as long as the cap of 5 takes nothing off the
+-- flow sensor's part.
 abbrev pub HasFormula : ℕ → ℕ → ℕ → Type 0
 HasFormula class k n =
     (p : TestPoint) → Admitted p → p.part ≡ 4 → p.class ≡ class → p.stage ≡ 1 →
     AtMost (flow_sensor_sum (figures_of p.class) p) (whole 5) → Represents (formula k n p) (limit_of (figures_of p.class) p)
 
--- The limit of a complete instrument at verification is 2 + 4×Δmin/Δ + 0.01×qp/q in class 1, 3 + 4×Δmin/Δ + 0.02×qp/q in class 2 and
--- 4 + 4×Δmin/Δ + 0.05×qp/q in class 3, as long as the flow sensor's part is at most 5.
+-- The formulas of the three classes: 2 + 4 × Δmin/Δ + 0.01 × qp/q in class 1, 3 + 4 × Δmin/Δ + 0.02 × qp/q in class 2 and
+-- 4 + 4 × Δmin/Δ + 0.05 × qp/q in class 3.
 abbrev pub CompleteFormula : Type 0
 CompleteFormula = HasFormula 1 2 1 × HasFormula 2 3 2 × HasFormula 3 4 5
 
@@ -84,7 +88,7 @@ CompleteFormula = HasFormula 1 2 1 × HasFormula 2 3 2 × HasFormula 3 4 5
 abbrev pub AtMost10 : Type 0
 AtMost10 = (p : TestPoint) → Admitted p → p.part ≡ 4 → p.stage ≡ 1 → AtMost (limit_of (figures_of p.class) p) (whole 10)
 
--- Document 01, "Edges to try": the verdict for a part, D, qp, q and I, the other inputs being stage 1, class 2, Δmin 3 and X 1000000
+-- The verdict by part, D, qp, q and I, where all else is fixed: class 2, at verification, a Δmin of 3 K and an X of 1000000.
 abbrev pub verdict_at : ℕ → ℕ → ℕ → ℕ → ℕ → Result Verdict Refusal
 verdict_at part d qp q i =
     verdict_of
@@ -92,16 +96,16 @@ verdict_at part d qp q i =
     i
     1000000
 
--- the marked (†) lines of the verdict
+-- Edges of the limits in figures: the last value that passes, and beside it one that fails.
 pub record VerdictEdges : Type 0 where
-  -- "Calculator, Δmin 3, D 300, X 1000000, stage 1: I 1015000 and 985000 pass; 1015001 and 984999 don't."
+  -- The calculator where Δ is Δmin: 0.5 + 1 percent of X are 15000, above X and below it.
   pub calculator_upper : verdict_at 1 300 1 1 1015000 ≡ Ok Pass
   pub calculator_above : verdict_at 1 300 1 1 1015001 ≡ Ok Fail
   pub calculator_lower : verdict_at 1 300 1 1 985000 ≡ Ok Pass
   pub calculator_below : verdict_at 1 300 1 1 984999 ≡ Ok Fail
-  -- "Complete, class 2, Δmin 3, D 3000, q = qp, X 1000000: 1034200 passes, 1034201 doesn't."
+  -- A complete instrument where Δ is 10 × Δmin, and q is qp: 0.6 + 0.8 + 2.02 percent are 34200.
   pub complete_upper : verdict_at 4 3000 1 1 1034200 ≡ Ok Pass
   pub complete_above : verdict_at 4 3000 1 1 1034201 ≡ Ok Fail
-  -- "Flow, class 2, qp 2500, q 10, X 1000000: 1050000 passes, 1050001 doesn't."
+  -- A flow sensor where qp is 250 times q: 2 + 0.02 × 250 would be 7 percent, and the cap leaves 5, which are 50000.
   pub flow_sensor_upper : verdict_at 3 300 2500 10 1050000 ≡ Ok Pass
   pub flow_sensor_above : verdict_at 3 300 2500 10 1050001 ≡ Ok Fail

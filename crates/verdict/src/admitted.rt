@@ -7,7 +7,7 @@ use crate::kinds::{Class, Part, Stage};
 use crate::point::{TestPoint, is_difference_outside, is_flow_outside};
 use quantity::{Difference, Refusal, first_refusal};
 
-// Only `try_from` makes one.
+// Only `try_from` makes one, so that whoever has one need not ask again.
 #[derive(Clone, Copy)]
 pub(crate) struct AdmittedPoint {
     pub(crate) part: Part,
@@ -30,7 +30,7 @@ impl TryFrom<TestPoint> for AdmittedPoint {
 
     ghost try_from_gives = { Admits };
 
-    // The refusals in the table's order, 50 to 54.
+    // Admits a test point, or gives the first of its refusals, in their order, 50 to 54.
     #[tactic(auto, using(crate::proofs::Ranges::difference_in_range, crate::proofs::Ranges::flow_in_range), unfolding(quantity::specs::Refusals::first_of))]
     fn try_from(point: TestPoint) -> Result<Self, Refusal> {
         let part = Part::try_from(point.part)?;

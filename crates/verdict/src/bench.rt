@@ -1,5 +1,5 @@
-// The verdict of the test bench on an indicated value: the comparison of its error with a limit, and the verdict at a test point, which
-// calls the limit and the comparison (document 01, "Error verdict"; document 02, request 4).
+// The verdict of the test bench on an indicated value: the comparison of its error with any limit, and the verdict at a test point, which is the limit
+// and then the comparison with it.
 ghost use Rattle.std.specs.Prelude.{◌≡◌};
 ghost use Rattle.quantity.specs.Refusals.{refusal_number, first_number};
 ghost use Rattle.verdict.specs.Certificate.{comparison_of};
@@ -15,14 +15,15 @@ use quantity::{Fraction, Refusal};
 /// The answer of the comparison and of the verdict.
 #[derive(Clone, Copy, Debug, PartialEq, Eq)]
 pub enum Verdict {
-    /// the error is at most the limit
+    /// the error is within the limit, or equal to it
     Pass,
-    /// the error is above it
+    /// the error is larger than the limit
     Fail,
 }
 
-/// Whether the indicated value's error lies within a limit in percent of the conventional true value, reduced or not. The two values have one unit. 55
-/// refuses a conventional true value of zero, a value above 10^12 − 1 and a limit with a zero denominator.
+/// Whether the indicated value's error lies within a limit, which is in percent of the conventional true value and need not be in lowest terms. The two
+/// values have one unit, whichever it is. 55 refuses a conventional true value of 0, a value above 10^12 − 1 and a limit whose denominator is 0.
+/// docs/OPERATIONS.md: "Error limits, comparison and verdict".
 pub fn compare_error(
     limit: Fraction,
     indicated: u64,
@@ -35,7 +36,7 @@ pub fn compare_error(
     compared(limit, indicated, conventional_true)
 }
 
-// Its answer alone, by the cases in which it comes.
+// The answer of the comparison by itself: the number and the theorem above speak of it.
 #[tactic(auto, unfolding(crate::specs::Certificate::comparison_of, crate::specs::Rows::incomparable, quantity::specs::Refusals::first_of))]
 fn compared(limit: Fraction, indicated: u64, conventional_true: u64) -> Result<Verdict, Refusal>
     ensures { result ≡ comparison_of limit indicated conventional_true }
@@ -52,8 +53,9 @@ fn compared(limit: Fraction, indicated: u64, conventional_true: u64) -> Result<V
     }
 }
 
-/// Whether the indicated value's error lies within the maximum permissible error of OIML R 75-1 at the test point, or the first of the refusals 50 to 55.
-/// The two values have one unit.
+/// Whether the indicated value's error lies within the maximum permissible error of OIML R 75-1 at the test point, or the first of the refusals 50 to 55:
+/// those of the limit, then that of the comparison. The two values have one unit, whichever it is. docs/OPERATIONS.md: "Error limits, comparison and
+/// verdict".
 pub fn error_verdict(
     point: TestPoint,
     indicated: u64,

@@ -1,4 +1,4 @@
-// The figures of the flow sensor's accuracy classes.
+// The figures of the flow sensor's accuracy classes (OIML R 75-1, 9.2).
 ghost use Rattle.std.specs.Prelude.{◌≡◌};
 ghost use Rattle.verdict.specs.Limit.{figures_of};
 ghost use Rattle.verdict.specs.Inside.Fit.{FiguresFit};
@@ -6,7 +6,7 @@ ghost use Rattle.verdict.specs.Inside.Kinds.{class_number};
 
 use crate::kinds::Class;
 
-// The cap that document 01 fixes for every class, in hundredths of a percent.
+// The cap of every class: 5 percent, in hundredths of a percent. For class 1 OIML R 75-1 only supposes a cap, of 3.5 percent, and leaves it open.
 const FIXED_CAP: u64 = 500;
 
 // The three numbers of a flow sensor's limit, constant + factor × qp/q and at most cap, in hundredths of a percent.
@@ -18,6 +18,7 @@ pub(crate) struct Figures {
 }
 
 impl Class {
+    // The figures of the class. None passes 100 percent, so that the numbers of a limit fit 64 bits.
     #[tactic(auto, unfolding(crate::specs::Limit::figures_of))]
     pub(crate) fn figures(self) -> Figures
         ensures as_stated { result ≡ figures_of (class_number self) }

@@ -13,7 +13,7 @@ pub(crate) enum Part {
     Complete,
 }
 
-// The accuracy class.
+// The accuracy class, which sets the flow sensor's figures.
 #[derive(Clone, Copy, Debug, PartialEq, Eq)]
 pub(crate) enum Class {
     One,
@@ -21,14 +21,14 @@ pub(crate) enum Class {
     Three,
 }
 
-// Where the limit is asked for.
+// When the test is made: the limit in service is twice that at verification.
 #[derive(Clone, Copy, Debug, PartialEq, Eq)]
 pub(crate) enum Stage {
     Verification,
     InService,
 }
 
-// The part, or 50. Each kind has an impl of its own: they differ in the list of variants, so a generic one would be no plainer.
+// The part, or 50. Each kind has an impl of its own, which is the list of its variants and little else.
 impl TryFrom<u64> for Part {
     type Error = Refusal;
 

@@ -1,5 +1,5 @@
-// The error verdict of a test bench: the maximum permissible errors of OIML R 75 for a heat meter and its
-// sub-assemblies, and whether an indicated value lies within them (document 01, "Error verdict"; document 02, request 4).
+// The error verdict of a test bench: the maximum permissible errors (MPE) of OIML R 75-1 for a heat meter and its parts, and whether an indicated value
+// lies within them. docs/OPERATIONS.md: "Error limits, comparison and verdict".
 #![tactic(auto)]
 
 mod admitted;

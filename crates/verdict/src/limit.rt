@@ -1,5 +1,5 @@
-// The maximum permissible error of a test point: its limit as an exact fraction of percent, in lowest terms for the certificate (document 01,
-// "Error verdict"; document 02, request 4).
+// The maximum permissible error of a test point, as OIML R 75-1 has it: a limit in percent, which is an exact fraction, reduced last of all so that a
+// certificate can show it.
 ghost use Rattle.std.specs.Prelude.{◌≡◌, ◌+◌, ◌*◌, ◌^◌, ◌≤◌, min};
 ghost use Rattle.quantity.specs.Fractions.{Represents};
 ghost use Rattle.quantity.specs.Refusals.{refusal_number, first_number};
@@ -16,7 +16,7 @@ use crate::point::TestPoint;
 use quantity::{Fraction, Refusal};
 
 impl AdmittedPoint {
-    // The flow sensor's limit at verification, times 100 × q: what the cap leaves of constant + factor × qp/q.
+    // The flow sensor's limit at verification, times 100 × q: what the cap leaves of constant + factor × qp/q. The product has no fraction.
     fn flow_sensor_part(self) -> u64
         ensures as_stated { let f = figures_of (class_number self.class) in
             result ≡ min (f.constant * self.q + f.factor * self.qp) (f.cap * self.q) }
@@ -77,8 +77,9 @@ impl AdmittedPoint {
     }
 }
 
-/// The maximum permissible error of OIML R 75-1 at a test point, in percent and in lowest terms; or the first of the refusals 50 of the part, 51 of the
-/// class, 52 of the stage, 53 of the differences and 54 of the flow rates.
+/// The maximum permissible error at a test point, in percent and in lowest terms: that of OIML R 75-1, 9.2, and in service twice that, 9.4. Or the first
+/// of the refusals 50 of the part, 51 of the class, 52 of the stage, 53 of the two temperature differences and 54 of the two flow rates.
+/// docs/OPERATIONS.md: "Error limits, comparison and verdict".
 pub fn error_limit(point: TestPoint) -> Result<Fraction, Refusal>
     ensures answer { result ≡ error_limit_of point }
     ensures number { refusal_number result ≡ first_number (point_rows point) }

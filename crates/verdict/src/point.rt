@@ -1,34 +1,34 @@
-// A test point of the bench, and the conditions of 53 and 54 of document 01's row "Verdict".
+// A test point of the bench, and when its temperature differences (53) and its flow rates (54) are refused.
 ghost use Rattle.std.specs.Prelude.{◌≡◌};
 ghost use Rattle.verdict.specs.Rows.{difference_outside, flow_outside};
 
 use quantity::{Difference, LARGEST_KELVINS, Unit, is_outside};
 
-// The largest flow rate that 54 lets pass.
+// The largest flow rate that 54 lets pass, in the unit of qp and q.
 const LARGEST_FLOW: u64 = 1000000000;
 
-/// What is tested, and where: all that the limit depends on, without the two values that are compared. Any content can stand here: the limit,
-/// and so the verdict, refuses what is out of range. The three kinds are numbers for that reason, a rule of the project: what crosses a crate's
-/// border is total. `AdmittedPoint` has them as enums.
+/// What is tested, and under which conditions: all that the limit depends on, without the two values that are compared. Any numbers can stand here,
+/// also for the three kinds: the limit, and so the verdict, refuses what is out of range, with the refusal named at each field.
+/// docs/OPERATIONS.md: "Error limits, comparison and verdict".
 #[derive(Clone, Copy)]
 pub struct TestPoint {
-    /// 1 calculator, 2 temperature sensor pair, 3 flow sensor, 4 complete instrument
+    /// what is tested: 1 calculator, 2 temperature sensor pair, 3 flow sensor, 4 complete instrument; otherwise 50
     pub part: u64,
-    /// accuracy class, 1 to 3
+    /// accuracy class, 1 to 3, whatever the part; otherwise 51
     pub class: u64,
-    /// 1 verification, 2 in service
+    /// 1 at verification, 2 in service; otherwise 52
     pub stage: u64,
-    /// Δmin, in whole kelvins
+    /// smallest temperature difference Δmin in whole kelvins, 1 to 3; otherwise 53
     pub delta_min: u64,
-    /// difference between supply and return temperature, Δ
+    /// temperature difference of the test, in hundredths of a kelvin, from Δmin to 180 K; otherwise 53
     pub difference: Difference,
-    /// permanent flow rate
+    /// permanent flow rate, 1 to 10^9 in any unit; otherwise 54
     pub qp: u64,
-    /// flow rate, in the same unit
+    /// flow rate of the test, 1 to 10^9 in the unit of qp; otherwise 54
     pub q: u64,
 }
 
-// The condition of 54.
+// The condition of 54: one of the two flow rates is out of range.
 #[tactic(auto, unfolding(crate::specs::Rows::flow_outside))]
 pub(crate) fn is_flow_outside(qp: u64, q: u64) -> bool
     ensures { result ≡ flow_outside qp q }

@@ -7,7 +7,7 @@ use quantity::{Fraction, product_less};
 // The largest value that 55 lets pass.
 const LARGEST_VALUE: u64 = 999999999999;
 
-// Only `new` makes one. The public operations take two numbers: what crosses a crate's border is total, a rule of the project.
+// Only `new` makes one. The public operations take two plain numbers, so that they answer any.
 #[derive(Clone, Copy)]
 pub(crate) struct Values {
     pub(crate) indicated: u64,

@@ -1,4 +1,4 @@
--- What a test point is once its kinds are read and no row refuses it.
+-- What an admitted test point is: one whose kinds are read and that no row refuses.
 use Rattle.std.specs.Prelude.{◌≡◌, Result, Err, MatchResult}
 use Rattle.quantity.specs.Refusals.{first_of}
 use Rattle.quantity.specs.declared.refusal.Refusal.{Refusal}
@@ -7,7 +7,7 @@ use Rattle.verdict.specs.Inside.Kinds.{part_number, class_number, stage_number}
 use Rattle.verdict.specs.declared.admitted.AdmittedPoint.{AdmittedPoint}
 use Rattle.verdict.specs.declared.point.TestPoint.{TestPoint}
 
--- the test point that it was, each kind the number that names it
+-- The test point that it was made of: each kind is again the number that names it.
 abbrev pub point_of : AdmittedPoint → TestPoint
 point_of a =
     record {
@@ -20,6 +20,6 @@ point_of a =
       q = a.q;
     }
 
--- a test point that no row refuses is admitted as it is, and of any other the first row's refusal is the error
+-- A test point that no row refuses is admitted as it stands; any other is refused by the first row that applies.
 abbrev pub Admits : TestPoint → Result AdmittedPoint Refusal → Type 0
 Admits p r = MatchResult r (λ a. (point_of a ≡ p) × Admitted p) (λ e. first_of (point_rows p) ≡ Err e)

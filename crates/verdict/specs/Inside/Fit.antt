@@ -2,11 +2,11 @@
 use Rattle.std.specs.Prelude.{ℕ, ◌≤◌}
 use Rattle.verdict.specs.declared.class.Figures.{Figures}
 
--- in the figures' hundredths of a percent
+-- 100 percent, in the hundredths of a percent in which figures are counted.
 abbrev pub hundred_percent : ℕ
 hundred_percent = 10000
 
--- none is above 100 percent
+-- No figure is above 100 percent.
 pub record FiguresFit (f : Figures) : Type 0 where
   pub constant_fits : f.constant ≤ hundred_percent
   pub factor_fits : f.factor ≤ hundred_percent

@@ -1,4 +1,5 @@
--- A refusal of the limit is the verdict's. The check does not close this by `using(of_refusal)`: it does not look into the exit of a `?`.
+-- A refusal of the limit is the verdict's (`of_refusal`), which has to be said of the exit of the `?`; and where there is a limit, its comparison is the
+-- verdict (`of_limit`).
 use Rattle.std.proofs.Common.{rules, ap, sym, ◌∙◌}
 use Rattle.std.proofs.lemmas.Result.{err_from_is_err_and}
 use Rattle.quantity.specs.Refusals.{refusal_number}
