@@ -1,10 +1,12 @@
-// What a converter answers where it gives no new file (document 02, request 6).
+// What a converter answers where it gives no new file.
 use lines::RefusedAt;
 
-/// A refusal with its line, counted from 1; or the one that comes without a line: 66, of the output buffer.
+/// Why a file was not moved. docs/OPERATIONS.md: "Moved files".
 #[derive(Clone, Copy, Debug, PartialEq, Eq)]
 pub enum Unconverted {
+    /// a refusal of the file with its line, counted from 1: 60, a number of the audit's, or 72
     At(RefusedAt),
+    /// 66, which has no line: the new file is longer than the output buffer
     NoRoom,
 }
 

@@ -1,7 +1,7 @@
 // Which way a file is moved between editions.
 ghost use Rattle.conversion.specs.Theorems.{Known};
 
-// The one that is converted from and the one that is converted to: numbers, as everywhere (meter, src/edition.rt).
+// The old edition and the new one, as numbers: an edition is a number everywhere (meter, src/edition.rt).
 #[derive(Clone, Copy)]
 pub(crate) struct Direction {
     pub(crate) from: u64,

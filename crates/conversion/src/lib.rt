@@ -1,4 +1,4 @@
-// Files moved between editions 2 and 3.
+// Files moved between editions 2 and 3. docs/FORMAT.md: "From edition 2 to edition 3, and back"; docs/OPERATIONS.md: "Moved files".
 #![tactic(auto)]
 
 mod answer;
