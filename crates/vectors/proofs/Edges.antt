@@ -1,4 +1,4 @@
--- Document 01's marked (†) edges, one of them as document 02 changed it, computed by the definitions.
+-- The edges of a Pt 100's temperatures and of the verdict, computed by the definitions.
 -- Assumes nothing.
 use mathlib.Core.Path.{refl}
 use Rattle.quantity.specs.Largest.{largest}

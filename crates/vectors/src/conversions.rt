@@ -9,8 +9,7 @@ use std::io;
 use std::io::Write;
 
 // `E,` the edition that is converted from, 2 or 3, the size of the output buffer, at most 4096, and the bytes, at most 4096: N and the length, or
-// X, the refusal and its line, or X and 66; then the whole buffer, which began as points. No paper has an answer for another edition;
-// the number is the input's, matched once.
+// X, the refusal and its line, or X and 66; then the whole buffer, which began as points. Another edition has no converter, and no answer.
 pub(crate) fn of_file(out: &mut impl Write, line: &[u8]) -> io::Result<()> {
     let [from, size] = numbers::<2>(line, 1);
     let mut space = [0; MOST_BYTES];

@@ -1,5 +1,6 @@
-// Runs outside vectors: repeats each line of its input with the answer behind it. The file `stdout` beside src/ has
-// the same lines with the answers as the sources name them in the lines that begin with '#'.
+// Runs vectors from outside: repeats each line of its input with the answer behind it. The files `stdin` and `stdout` beside src/ have the lines and the
+// answers that are due; a line that begins with '#' says what the cases below it are, and whence they come. docs/ARCHITECTURE.md, "vectors", has the
+// lines of each operation.
 #![tactic(auto)]
 
 mod answers;
@@ -55,8 +56,7 @@ fn put_answer(out: &mut impl Write, line: &[u8]) -> io::Result<()> {
     }
 }
 
-// The line's first byte names the operation that its numbers go to. A table of the operations would have the same rows, and a search for the
-// byte besides; a struct of the output and the line would be taken apart again in each operation.
+// The line's first byte names the operation that its numbers go to.
 fn operate(out: &mut impl Write, line: &[u8]) -> Result<(), Unanswered> {
     match line {
         [b'T', ..] => temperatures::of_reading(out, line)?,

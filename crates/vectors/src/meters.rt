@@ -6,7 +6,7 @@ use std::io;
 use std::io::Write;
 
 // `M,` the card's twelve fields, the meter's state, then pulses, seconds, supply and return reading: the refusal or 0, then the state
-// afterwards. A state is register, volume, accepted, refused, edition, kept seconds and cold register, in the input's order, not the meter's.
+// afterwards. A state is heat register, volume, accepted, refused, edition, kept seconds and cold register, in this order, which is not the struct's.
 pub(crate) fn of_state(out: &mut impl Write, line: &[u8]) -> io::Result<()> {
     put_stepped(
         out,

@@ -1,4 +1,4 @@
-// The reader of one line, given as hexadecimal bytes, in the form that hands back the part of the caller's bytes after the line.
+// The reader of one line, given as hexadecimal bytes: the line that it reads, and how many of the bytes it leaves.
 use crate::answers::put_refusal;
 use crate::archives::put_written;
 use crate::hexadecimal::{MOST_BYTES, bytes_of};

@@ -22,8 +22,8 @@ pub(crate) fn last_field(line: &[u8], k: usize) -> &[u8] {
         .unwrap_or_default()
 }
 
-// A number with one decimal digit more; 0 where 64 bits do not hold it, or where the byte is no digit. So a number is read behind the last
-// byte that is no digit, which `parse` would refuse.
+// A number with one decimal digit more; 0 where 64 bits do not hold it, or where the byte is no digit. So a number begins anew behind each byte that is
+// no digit, and every field has one.
 fn with_digit(value: u64, byte: u8) -> u64 {
     match byte {
         b'0'..=b'9' => value

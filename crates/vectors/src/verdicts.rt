@@ -6,7 +6,7 @@ use std::io;
 use std::io::Write;
 use verdict::{TestPoint, Verdict};
 
-// The test point whose seven numbers stand at the front of a line. Its fields have names and no order of their own, so that no `From` of numbers is its.
+// The test point whose seven numbers stand at the front of a line.
 fn point_of(line: &[u8]) -> TestPoint {
     let [part, class, stage, delta_min, difference, qp, q] = numbers::<7>(line, 1);
     TestPoint {

@@ -7,8 +7,7 @@ use std::io;
 use std::io::Write;
 
 // `L,` a kind (0 opening, 1 card, 2 sample, 3 last line), the edition, the bytes lent, the place, and the line's numbers: the next place, or
-// X and the refusal, then the whole space. The last line has every edition's numbers. The kind is the input's own number, matched once: an enum would
-// be no plainer.
+// X and the refusal, then the whole space. The last line has every edition's numbers.
 pub(crate) fn of_values(out: &mut impl Write, line: &[u8]) -> io::Result<()> {
     let [kind, edition, lent, at] = numbers::<4>(line, 1);
     let content = match kind {
