@@ -2,8 +2,9 @@
 -- of the flow sensor's classes, then the limit of each part at verification, and last what the stage makes of it. For class 1 that recommendation
 -- only supposes figures, with a cap of 3.5 percent on the flow sensor; here all classes have the cap of 5. docs/OPERATIONS.md, "Error limits,
 -- comparison and verdict", has the limits in a table.
--- Δ is the temperature difference of the test in kelvins, D the same in hundredths of a kelvin. A limit is an exact fraction. It is asked for only
--- where no row of Rows refuses the test point, and there its denominator is above zero (`limit_is_fraction` of proofs/Positive.antt).
+-- Δ is the temperature difference of the test in kelvins; a test point has it as D, in hundredths of a kelvin. A limit is an exact fraction, added and
+-- compared as quantity's Fractions tells. It is asked for only where no row of Rows refuses the test point, and there its denominator is above zero
+-- (`limit_is_fraction` of proofs/Positive.antt).
 use Rattle.std.specs.Prelude.{ℕ, ◌*◌, cond, eqb}
 use Rattle.quantity.specs.Fractions.{◌over◌, whole, plus, times, smaller}
 use Rattle.quantity.specs.declared.fraction.Fraction.{Fraction}
@@ -34,7 +35,7 @@ figures2 = figures 200 2 fixed_cap
 abbrev pub figures3 : Figures
 figures3 = figures 300 5 fixed_cap
 
--- The figures of a class, by its number. A number that names no class is refused with 51 before a limit is asked for.
+-- The figures of a class, by its number. A number that names no class is refused with 51 before a limit is asked for, so that the last case is class 3.
 unfoldable pub figures_of : ℕ → Figures
 figures_of class = cond (eqb class 1) figures1 (cond (eqb class 2) figures2 figures3)
 
@@ -67,7 +68,7 @@ unfoldable pub complete_limit : Figures → TestPoint → Fraction
 complete_limit f p = plus (plus (calculator_limit p) (pair_limit p)) (flow_sensor_limit f p)
 
 -- The limit of a part at verification, by the part's number: 1 the calculator, 2 the temperature sensor pair, 3 the flow sensor, 4 the complete
--- instrument. Any other number is refused with 50 before.
+-- instrument. Any other number is refused with 50 before, so that the last case is 4.
 unfoldable pub part_limit : Figures → TestPoint → Fraction
 part_limit f p =
     cond (eqb p.part 1) (calculator_limit p)
@@ -75,8 +76,8 @@ part_limit f p =
     (cond (eqb p.part 3) (flow_sensor_limit f p)
     (complete_limit f p)))
 
--- What the stage makes of that limit: verification, 1, leaves it as it is; in service, 2, it is doubled, after cap and sum. Any other number is
--- refused with 52 before.
+-- What the stage makes of that limit: verification, 1, leaves it as it is; in service, 2, it is doubled, after cap and sum, and not capped again. Any
+-- other number is refused with 52 before.
 abbrev pub limit_at_stage : ℕ → Fraction → Fraction
 limit_at_stage stage l = cond (eqb stage 1) l (times (whole 2) l)
 

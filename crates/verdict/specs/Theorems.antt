@@ -63,7 +63,7 @@ abbrev pub EqualComparisons : Type 0
 EqualComparisons = (l m : Fraction) (i x : ℕ) → IsFraction l → IsFraction m → Same l m → comparison_of l i x ≡ comparison_of m i x
 
 -- An indicated value as far above X as another lies below it, the two being I and 2X − I, gets the same verdict. 55 could refuse the upper one
--- alone, so both are supposed to be within its range.
+-- alone, so both are supposed to be within its range. Here they are i and j.
 abbrev pub Mirrored : Type 0
 Mirrored =
     (p : TestPoint) (i j x : ℕ) → i + j ≡ 2 * x → i ≤ largest_value → j ≤ largest_value → verdict_of p i x ≡ verdict_of p j x

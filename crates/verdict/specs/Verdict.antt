@@ -21,7 +21,7 @@ absolute_error i x = max i x - min i x
 unfoldable pub passes : Fraction → ℕ → ℕ → Bool
 passes l i x = is_at_most (whole (absolute_error i x * 100)) (times l (whole x))
 
--- The word for it: a pass if the error is within the limit, and otherwise a fail.
+-- The answer: a pass if the error is within the limit, and otherwise a fail.
 abbrev pub answer : Bool → Verdict
 answer true = Pass
 answer false = Fail

@@ -16,7 +16,7 @@ use crate::point::TestPoint;
 use quantity::{Fraction, Refusal};
 
 impl AdmittedPoint {
-    // The flow sensor's limit at verification, times 100 × q: what the cap leaves of constant + factor × qp/q. The product has no fraction.
+    // The flow sensor's limit at verification, times 100 × q, which makes it a whole number: what the cap leaves of constant + factor × qp/q.
     fn flow_sensor_part(self) -> u64
         ensures as_stated { let f = figures_of (class_number self.class) in
             result ≡ min (f.constant * self.q + f.factor * self.qp) (f.cap * self.q) }
