@@ -1,7 +1,7 @@
--- The refusals where a temperature misses its range. Document 02, request 1: "A temperature now answers which end of its range it
--- missed: 32 and 33 keep their meaning below 0.00 °C, and above 180.00 °C other numbers apply. The edge 1684784 of document 01 becomes
--- 70. Refused: 70 supply and 71 return above 180.00 °C, in the places of 32 and 33; the temperature and coefficient operations use them
--- too." A temperature alone has the supply's numbers: document 01's row "Temperature alone | 12; 32", and that edge, which is one.
+-- The refusals where a temperature misses its range, 0.00 to 180.00 °C. A short in a sensor's leads makes its reading too low, and a broken lead
+-- makes it too high; so the two ends have numbers of their own. Below the range it is 32 for the supply and 33 for the return; above it, 70 for the
+-- supply and 71 for the return. A temperature that is asked for by itself has the supply's numbers. docs/FORMAT.md, "Which samples are accepted",
+-- has these as its third condition.
 use Rattle.std.specs.Prelude.{ℕ}
 use Rattle.quantity.specs.Refusals.{number_of}
 use Rattle.quantity.specs.declared.range.Role.{Role}
@@ -11,7 +11,7 @@ use Rattle.quantity.specs.declared.range.End.TheVariants.{Low, High}
 use Rattle.quantity.specs.declared.refusal.Refusal.{Refusal}
 use Rattle.quantity.specs.declared.refusal.Refusal.TheVariants.{SupplyBelowRange, ReturnBelowRange, SupplyAboveRange, ReturnAboveRange}
 
--- the refusal, by the place of the check and the end of the range that was missed
+-- The refusal, by whose temperature it is (`Role`) and by the end of the range that it misses.
 unfoldable pub refusal_at_end : Role → End → Refusal
 refusal_at_end Alone Low = SupplyBelowRange
 refusal_at_end Alone High = SupplyAboveRange
@@ -20,6 +20,6 @@ refusal_at_end Supply High = SupplyAboveRange
 refusal_at_end Return Low = ReturnBelowRange
 refusal_at_end Return High = ReturnAboveRange
 
--- its number
+-- Its number. From the number alone it can be told which end it was (`TellsEnd` of specs/Theorems.antt).
 abbrev pub end_number : Role → End → ℕ
 end_number p e = number_of (refusal_at_end p e)

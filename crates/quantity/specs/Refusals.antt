@@ -1,11 +1,12 @@
--- The refusals and their table as data, document 01, "Refusals, by the place of the check": "Places and numbers are tried in the
--- order shown; the first that applies is the answer, and none is given otherwise."
+-- The refusals, and how it is decided which of them is given. Conditions that refuse are written as rows: each names a refusal and the condition
+-- under which it is given. Rows are tried one after the other. The first whose condition holds decides, and where no condition holds nothing is
+-- refused. docs/OPERATIONS.md, "Refusals", has a sentence for each number, and the order of the rows of each operation.
 use Rattle.std.specs.Prelude.{◌≡◌, ℕ, List, [], ◌∷◌, Bool, false, cond, ◌||◌, ltb, Result, Ok, Err}
 use Rattle.quantity.specs.declared.refusal.Refusal.{Refusal}
 use Rattle.quantity.specs.declared.refusal.Refusal.TheVariants as R
 use Rattle.quantity.specs.declared.refusal.Row.{Row}
 
--- the number that the papers give a refusal
+-- Each refusal has a number of its own. A number that does not stand here is given by no operation.
 unfoldable pub number_of : Refusal → ℕ
 number_of R.Serial = 10
 number_of R.Place = 11
@@ -49,30 +50,31 @@ number_of R.ReturnAboveRange = 71
 number_of R.OneEditionAlone = 72
 number_of R.Profile = 73
 
--- a row of the table: a refusal, and the condition under which it is given
+-- A row: a refusal, and the condition under which it is given.
 abbrev pub row : Refusal → Bool → Row
 row r b = record { refusal = r; condition = b }
 
--- a condition of many rows: x lies outside low..high
+-- A number lies outside the range low..high. Both ends are inside it. Many conditions are of this form.
 unfoldable pub outside : ℕ → ℕ → ℕ → Bool
 outside x low high = ltb x low || ltb high x
 
--- the refusal of the first row whose condition holds, and none otherwise
+-- What rows answer: the refusal of the first one whose condition holds, or no refusal.
 unfoldable pub first_of : List Row → Result Unit Refusal
 first_of [] = Ok tt
 first_of (r ∷ rs) = cond r.condition (Err r.refusal) (first_of rs)
 
--- the number of an answer, of whatever it is made: that of its refusal, and 0 where nothing is refused
+-- The number of an operation's answer, whatever it answers where it does not refuse: that of the refusal, and 0 where there is none.
 unfoldable pub refusal_number : {A : Type 0} → Result A Refusal → ℕ
 refusal_number (Ok a) = 0
 refusal_number (Err r) = number_of r
 
--- the number that rows give: that of the first whose condition holds, and 0 where none does
+-- The number that rows give: that of the first one whose condition holds, and 0 where none does. An operation with one list of rows promises this
+-- number of its answer.
 unfoldable pub first_number : List Row → ℕ
 first_number [] = 0
 first_number (r ∷ rs) = cond r.condition (number_of r.refusal) (first_number rs)
 
--- no row applies: each condition is false
+-- No row applies: every condition is false.
 abbrev pub NoneApplies : List Row → Type 0
 NoneApplies [] = Unit {0}
 NoneApplies (r ∷ rs) = (r.condition ≡ false) × NoneApplies rs

@@ -1,5 +1,4 @@
--- What is proved of the refusals' numbers, of rows, and of divisors and lowest terms. Each statement has the name of the clause or of the law that
--- promises it.
+-- What is proved of the refusals' numbers, of rows, and of lowest terms. Each statement has the name of the clause or of the law that promises it.
 use Rattle.std.specs.Prelude.{◌≡◌, List, ◌↔◌, Result, Ok}
 use Rattle.quantity.specs.Divisors.{InLowestTerms}
 use Rattle.quantity.specs.Fractions.{IsFraction, Represents}
@@ -19,10 +18,11 @@ NumbersDiffer = (p q : Refusal) → number_of p ≡ number_of q → p ≡ q
 abbrev pub RefusesNothing : List Row → Result Unit Refusal → Type 0
 RefusesNothing rows answer = (answer ≡ Ok tt) ↔ NoneApplies rows
 
--- A number tells the end of the range that was missed, whatever the places of the check: no place gives for one end what any gives for the other.
+-- A number tells the end of the range that was missed, whosever temperature it is: no number of the low end, be it of the supply, of the return or
+-- of a temperature by itself, is one of the high end.
 abbrev pub TellsEnd : Type 0
 TellsEnd = (p q : Role) (e f : End) → end_number p e ≡ end_number q f → e ≡ f
 
--- Reduced, a fraction is the same fraction in lowest terms; and only one pair of numbers is.
+-- Reduced, a fraction has the same value and is in lowest terms; and no other pair of numbers is both.
 abbrev pub ReducedExactly : Fraction → Fraction → Type 0
 ReducedExactly x answer = (r : Fraction) → IsFraction x → (r ≡ answer) ↔ (Represents r x × InLowestTerms r)

@@ -1,4 +1,4 @@
-// The largest common divisor of two numbers, for the lowest terms of a fraction (document 02, request 4).
+// The largest common divisor of two numbers, by which a fraction comes to its lowest terms.
 ghost use Rattle.std.specs.Prelude.{◌≡◌};
 ghost use Rattle.quantity.specs.Divisors.{largest_common_divisor, IsLargestCommonDivisor};
 

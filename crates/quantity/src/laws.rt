@@ -6,7 +6,7 @@ pub fn numbers_differ()
     ensures { NumbersDiffer }
 {}
 
-/// A number tells which end of the range a temperature missed, wherever it is asked for.
+/// A number tells which end of the range a temperature missed, whosever temperature it is.
 pub fn tells_end()
     ensures { TellsEnd }
 {}

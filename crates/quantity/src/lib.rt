@@ -1,5 +1,5 @@
-// What every crate shares: the units of temperature and of difference, exact fractions and their lowest terms, the refusals and the
-// rows of their table, those of a temperature's two ends, and the comparison of two products of 64-bit numbers.
+// What every crate shares: the units of temperature and of difference, exact fractions and their lowest terms, the refusals and the rows that
+// decide between them, the refusals of a temperature's two ends, and the comparison of two products of 64-bit numbers.
 #![tactic(auto)]
 
 mod divisor;

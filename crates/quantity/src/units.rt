@@ -1,23 +1,26 @@
-// The two units of document 01, "Temperature". Each is a type of its own, so that the checker refuses one in the
-// other's place. Any content can stand in either: the operations that take them refuse what is out of range.
+// The two units of temperature, and the ends of their range. Each is a type of its own: where one is asked for, the other does not pass for it
+// (docs/OPERATIONS.md, "What every operation promises"). Any content can stand in either: the operations that take them refuse what is out of
+// range.
 ghost use Rattle.std.specs.Prelude.{◌≡◌, ℕ, ◌*◌, Bool, ◌||◌};
 ghost use Rattle.std.specs.Ordering.{partial_lt};
 ghost use Rattle.std.proofs.Common.{rules};
 ghost use Rattle.quantity.specs.Units.{is_colder, is_smaller, distance_of};
 
-/// The last temperature of the range, in hundredths of a degree Celsius.
+/// The last temperature of the range, in hundredths of °C: 180.00 °C. A reading above it is refused with 70 or 71.
 pub const LAST_HUNDREDTH: u64 = 18000;
 
-/// The last temperature of the range, in whole degrees Celsius.
+/// The last temperature of the range, in whole °C; the water table ends there.
 pub const LAST_DEGREE: u64 = 180;
 
 /// The largest difference of two temperatures of the range, in whole kelvins.
 pub const LARGEST_KELVINS: u64 = 180;
 
-/// A unit in which hundredths are counted.
+/// A unit of which hundredths are counted: °C for `Temperature`, K for `Difference`.
 pub trait Unit: Copy + PartialOrd + Sized {
+    // How many hundredths a value is.
     ghost hundredths: { Self → ℕ };
 
+    // Its order: by the hundredths.
     ghost is_less: { Self → Self → Bool };
 
     /// A number of hundredths. Every count has a value, so nothing is refused.
@@ -42,7 +45,7 @@ pub trait Unit: Copy + PartialOrd + Sized {
     ghost ordered: { (a b : Self) → partial_lt Self.PartialOrd.partial_cmp a b ≡ is_less a b };
 }
 
-/// A temperature in hundredths of a degree Celsius.
+/// A temperature in hundredths of a degree Celsius. The range is 0 to 18000; any number can stand here.
 #[derive(Clone, Copy, Debug, PartialEq, Eq, PartialOrd, Ord)]
 pub struct Temperature(pub u64);
 
@@ -58,7 +61,7 @@ impl Unit for Temperature {
     }
 }
 
-/// A temperature difference in hundredths of a kelvin.
+/// A temperature difference ΔΘ in hundredths of a kelvin. Any number can stand here.
 #[derive(Clone, Copy, Debug, PartialEq, Eq, PartialOrd, Ord)]
 pub struct Difference(pub u64);
 
@@ -75,7 +78,7 @@ impl Unit for Difference {
 }
 
 impl Temperature {
-    /// How far two temperatures lie apart, whichever is the larger.
+    /// How far two temperatures lie apart, whichever is the larger. Nothing is refused.
     #[tactic(auto, unfolding(crate::specs::Units::distance_of))]
     pub fn distance(self, other: Temperature) -> Difference
         ensures { result ≡ distance_of self other }
