@@ -1,4 +1,4 @@
--- The straight line through both ends of the curve, and how much the curve lies above it.
+-- The straight line that joins the curve's ends, and how much the curve lies above it.
 -- Assumes nothing.
 use mathlib.Core.Path.{◌≡◌, ap}
 use Prim.Native.Nat.{ℕ, ◌+◌, ◌-◌, ◌*◌, ◌≤◌}

@@ -1,5 +1,6 @@
--- The refusals where a reading has no temperature: 12 for an unknown sensor; below 0.00 °C 32 for a temperature alone or the supply's and 33 for the
--- return's, and above 180.00 °C 70 and 71 in their places.
+-- The refusals of a reading. Without a sensor kind it is 12. A reading that is too low for a temperature is refused with 32, or with 33 if it is
+-- that of the return; one that is too high with 70, or with 71. A reading by itself has the numbers of the supply. docs/OPERATIONS.md, "The
+-- temperature of one reading".
 use Rattle.std.specs.Prelude.{ℕ, List, [], ◌∷◌, Bool, true, false, Result, Ok, Err}
 use Rattle.quantity.specs.Refusals.{row}
 use Rattle.quantity.specs.Range.{refusal_at_end}
@@ -16,18 +17,18 @@ use Rattle.platinum.specs.Temperature.{temperature_of}
 use Rattle.platinum.specs.declared.reading.Unmeasured.{Unmeasured}
 use Rattle.platinum.specs.declared.reading.Unmeasured.TheVariants.{NoSensor, Outside}
 
--- the refusal where there is no temperature, by the place of the check
+-- The refusal, by whose reading it is and by why it has no temperature.
 unfoldable pub unmeasured_refusal : Role → Unmeasured → Refusal
 unmeasured_refusal p NoSensor = SensorKind
 unmeasured_refusal p (Outside e) = refusal_at_end p e
 
--- an answer's refusal, by the place of the check
+-- What an answer refuses, by whose reading it is: nothing if it is a temperature.
 unfoldable pub refusal_of : Role → Result Temperature Unmeasured → Result Unit Refusal
 refusal_of p (Ok t) = Ok tt
 refusal_of p (Err u) = Err (unmeasured_refusal p u)
 
--- The answer has no temperature, for this end of the range. An answer without a sensor has none either; 12 comes first wherever the
--- sensor is asked for, and otherwise it counts with the low end.
+-- An answer without a temperature, that is counted with this end of the range: the one that was missed. Without a sensor no end was missed, and it
+-- is counted with the low one; wherever the sensor is looked at, 12 has come before.
 abbrev pub has_none : End → Result Temperature Unmeasured → Bool
 has_none e (Ok t) = false
 has_none Low (Err (Outside Low)) = true
@@ -37,13 +38,14 @@ has_none High (Err (Outside High)) = true
 has_none Low (Err NoSensor) = true
 has_none High (Err NoSensor) = false
 
--- no temperature, for each end of the range: the high end's row comes right after the low end's
+-- The rows of one reading, by whose it is: too low, then too high.
 abbrev pub end_rows : Role → Result Temperature Unmeasured → List Row
 end_rows p m =
     row (refusal_at_end p Low) (has_none Low m)
     ∷ row (refusal_at_end p High) (has_none High m)
     ∷ []
 
--- the rows of a temperature alone: 12; 32, then 70. The temperature operation's `refusal_of Alone` is the first of these
+-- The rows of the temperature operation, whose reading stands by itself: 12, 32, 70. What its answer refuses, by `refusal_of Alone`, is the first
+-- of these that applies.
 abbrev pub alone_rows : ℕ → ℕ → List Row
 alone_rows field r = row SensorKind (is_unknown (sensor_of field)) ∷ end_rows Alone (temperature_of field r)

@@ -1,7 +1,7 @@
-// The platinum curve W(t), and the value on which a temperature is searched for. It keeps the ratio that is searched for to itself, works out the
-// curve by a try alone, notes each try, and can be neither made nor copied elsewhere: so the search, which stands elsewhere, learns where the ratio
-// lies on the curve by the tries that its notes tell, and by nothing else. That `found` makes one such value and hands out its notes, and that the
-// polynomial is written in `try_at` alone, no contract says: these two are to be seen here.
+// The platinum curve W(t) of IEC 60751, and the value by which a temperature is searched for on it. That value keeps the resistance ratio to
+// itself, works out the curve by a try alone, notes each try, and can be neither made nor copied elsewhere: so the search, which stands elsewhere,
+// learns where the ratio lies on the curve by the tries that its notes tell, and by nothing else. That `found` makes one such value and hands out
+// its notes, and that the polynomial is written in `try_at` alone, no contract says: these two are to be seen here.
 ghost use Rattle.std.specs.Prelude.{◌≡◌, ◌+◌, ◌≤◌, ◌<◌, leb};
 ghost use Rattle.quantity.specs.Largest.{largest};
 ghost use Rattle.quantity.specs.Units.{last_hundredth};
@@ -12,7 +12,7 @@ ghost use Rattle.platinum.specs.Tries.{FromLine, IsNoted};
 use crate::search::largest_at_most;
 use quantity::Temperature;
 
-// W(0) and W(18000).
+// The resistance ratios at both ends of the range, W(0) and W(18000), in units of 10^-14.
 pub(crate) const RATIO_AT_ZERO: u64 = 100000000000000;
 
 pub(crate) const RATIO_AT_END: u64 = 168478300000000;
@@ -28,7 +28,7 @@ pub(crate) struct Tries {
     farthest: u64,
 }
 
-// A search for the temperature of a ratio that lies neither below the curve's low end nor above its high end.
+// A search for the temperature of a resistance ratio that lies neither below the curve's low end nor above its high end.
 #[derive(Drop)]
 pub(crate) struct Search {
     ratio: u64,
@@ -73,7 +73,7 @@ impl Search {
         line_point(self.ratio)
     }
 
-    // Where the answer would be if the curve lay above the line everywhere by as much as it does at t.
+    // The temperature that the ratio would have if the curve lay above the line everywhere by as much as it does at t.
     #[tactic(auto, using(crate::proofs::Line::curve_above_line, crate::proofs::Start::line_point_in_range, crate::proofs::Start::fits), unfolding(crate::specs::Temperature::W, crate::specs::Line::next_from))]
     pub(crate) fn next_from(&mut self, t: u64) -> u64
         requires below_line_point { t ≤ line_point self.old.ratio }
@@ -97,7 +97,7 @@ impl Search {
         self.try_at(t) <= self.ratio
     }
 
-    // A try: W(t), the resistance at t as a ratio of that at 0 °C, in units of 10^-14.
+    // A try: W(t), the resistance ratio at t, in units of 10^-14 (IEC 60751).
     #[tactic(auto, using(crate::proofs::Growth::square), unfolding(crate::specs::Temperature::W))]
     fn try_at(&mut self, t: u64) -> u64
         requires in_range { t ≤ last_hundredth }

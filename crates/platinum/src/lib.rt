@@ -1,4 +1,4 @@
-// Platinum resistance thermometers (IEC 60751): the sensor kinds and the temperature of a reading.
+// Platinum temperature sensors (IEC 60751): the sensor kinds, and the temperature of a reading.
 #![tactic(auto)]
 
 mod curve;

@@ -1,4 +1,4 @@
-// The temperature operation, and why a reading has none.
+// The temperature operation (docs/OPERATIONS.md, "The temperature of one reading"), and why a reading has no temperature.
 ghost use Rattle.std.specs.Prelude.{◌≡◌, IfOk, MatchResult};
 ghost use Rattle.platinum.specs.Sensor.{resistance_of};
 ghost use Rattle.platinum.specs.Temperature.{of_resistance, temperature_of};
@@ -17,15 +17,15 @@ use quantity::{End, Refusal, Role, Temperature};
 /// Why a reading has no temperature: there is no sensor kind to read it by, or it misses an end of the range.
 #[derive(Clone, Copy, Debug, PartialEq, Eq)]
 pub enum Unmeasured {
-    /// no sensor kind has that resistance
+    /// no sensor kind has that resistance at 0 °C (12)
     NoSensor,
-    /// the reading lies beyond this end of the range, 0 to 180 °C
+    /// the reading lies beyond this end of the range, 0.00 to 180.00 °C (32 or 33, 70 or 71)
     Outside(End),
 }
 
-/// The temperature of a reading in 0.0001 ohm, of a sensor that a card's field names by its resistance at 0 °C in ohm: the largest one in hundredths of
-/// a degree, 0 to 180 °C, at which the sensor's resistance by IEC 60751 is at most the reading. Any numbers are answered. Where there is no temperature
-/// the answer says why, and is 12 for an unknown sensor, then 32 below 0 °C and 70 above 180 °C.
+/// The temperature of a reading in 0.0001 ohm, of a sensor as it stands on a card, by its resistance at 0 °C in ohm. It is the largest temperature,
+/// in hundredths of °C from 0 to 18000, at which the sensor's resistance by IEC 60751 is not above the reading. Any numbers are answered. Where
+/// there is no temperature the answer says why: no such sensor (12), a reading below that of 0.00 °C (32), or above that of 180.00 °C (70).
 pub fn temperature(field: u64, reading: u64) -> Result<Temperature, Unmeasured>
     ensures value { result ≡ temperature_of field reading }
     ensures refusal { refusal_of P.Alone result ≡ first_of (alone_rows field reading) }
@@ -36,6 +36,7 @@ pub fn temperature(field: u64, reading: u64) -> Result<Temperature, Unmeasured>
     measured(field, reading)
 }
 
+// The answer, of which the clauses of `temperature` speak.
 #[tactic(auto, unfolding(crate::specs::Temperature::temperature_of))]
 fn measured(field: u64, reading: u64) -> Result<Temperature, Unmeasured>
     ensures { result ≡ temperature_of field reading }
@@ -63,7 +64,8 @@ fn of_sensor(sensor: Sensor, reading: u64) -> Result<Found, Unmeasured>
 }
 
 impl Unmeasured {
-    /// The refusal, by the place of the check: 12 without a sensor, otherwise that of the end that was missed.
+    /// The refusal, by whose reading it is: 12 without a sensor, and otherwise that of the end that was missed, 32 and 70, or 33 and 71 of the
+    /// return.
     #[tactic(auto, unfolding(crate::specs::Refusal::unmeasured_refusal))]
     pub fn refusal(self, role: Role) -> Refusal
         ensures { result ≡ unmeasured_refusal role self }
@@ -74,8 +76,8 @@ impl Unmeasured {
         }
     }
 
-    /// The refusal by the rows of the two ends alone, for a place where the sensor has been tested: that of the end that was missed. An answer without
-    /// a sensor counts with the low end.
+    /// The refusal by the rows of the two ends only, for a caller that has looked at the sensor already: that of the end that was missed, 32 and
+    /// 70, or 33 and 71 of the return. An answer without a sensor counts with the low end.
     #[tactic(auto, using(crate::proofs::Ends::outside_refusal, crate::proofs::Ends::outside_number), unfolding(quantity::specs::Refusals::first_of, quantity::specs::Refusals::first_number))]
     pub fn reading_refusal(self, role: Role) -> Refusal
         ensures answer { Err result ≡ first_of (end_rows role (Err self)) }

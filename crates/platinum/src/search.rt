@@ -1,4 +1,4 @@
-// The search for a temperature on the curve: it begins at the straight line through both ends and widens from there.
+// The search for a temperature on the curve: it begins at the straight line that joins the curve's ends, and widens from there.
 ghost use Rattle.std.specs.Prelude.{◌≡◌, leb};
 ghost use Rattle.quantity.specs.Largest.{largest};
 ghost use Rattle.quantity.specs.Units.{last_hundredth};

@@ -1,18 +1,22 @@
-// The sensor kinds.
+// The sensor kinds, and their resistances at 0 °C (IEC 60751).
 ghost use Rattle.std.specs.Prelude.{◌≡◌};
 ghost use Rattle.platinum.specs.Sensor.{sensor_of, resistance_of};
 
 use crate::reading::Unmeasured;
 
-/// A sensor kind, by its nominal resistance (IEC 60751).
+/// A kind of platinum sensor, by its resistance at 0 °C.
 #[derive(Clone, Copy, Debug, PartialEq, Eq)]
 pub enum Sensor {
+    /// 100 ohm
     Pt100,
+    /// 500 ohm
     Pt500,
+    /// 1000 ohm
     Pt1000,
 }
 
-/// The kind that a card's field names by its resistance at 0 °C in ohm, or that there is none.
+/// The kind that a number names, as it stands on a card: the resistance at 0 °C in ohm. Any other number than 100, 500 and 1000 names none
+/// (`NoSensor`, 12).
 impl TryFrom<u64> for Sensor {
     type Error = Unmeasured;
 
@@ -29,8 +33,8 @@ impl TryFrom<u64> for Sensor {
     }
 }
 
+// The resistances are constants and no discriminants of the enum, since they have a unit (CONTRIBUTING.md).
 impl Sensor {
-    // Kept as constants, not discriminants: a rule of the project (docs/DECISIONS.md).
     /// The resistance of a Pt 100 at 0 °C, in ohm.
     pub const OHM_PT100: u64 = 100;
 
