@@ -1,5 +1,5 @@
--- The heat coefficient, document 01, "Water table": "The coefficient operation takes ts, tr and place and gives
--- floor(10^11×(H(ts)−H(tr)) / (V×(ts−tr))) in J/(m³ K), V taken at the place's temperature."
+-- The heat coefficient k of OIML R 75-1, (A.1): the heat that a cubic metre of water gives off for each kelvin between supply and return, in
+-- J/(m³ K). The cubic metre is measured at the place of the flow sensor. docs/OPERATIONS.md, "Water: table, heat coefficient, heat of a volume".
 use Rattle.std.specs.Prelude.{ℕ, ◌-◌, ◌*◌, ◌^◌, List, [], ◌∷◌, ◌++◌, Result, Ok}
 use Rattle.std.specs.Result.{result_and}
 use Rattle.quantity.specs.declared.units.Temperature.{Temperature}
@@ -14,19 +14,20 @@ use Rattle.water.specs.Table.{Table}
 use Rattle.water.specs.Interpolation.{enthalpy_at, volume_at}
 use Rattle.water.specs.Pair.{at_place, are_equal, pair_rows}
 
--- the exact coefficient, with the volume measured at a third temperature
+-- The exact coefficient, with V at the temperature of the measured water. The factor 10^11 leads from mJ, 10^-12 m³ and hundredths of a kelvin to
+-- J, m³ and K. With ts below tr the difference of the enthalpies stops at 0; that case is refused.
 unfoldable pub exact_coefficient : Table → Temperature → Temperature → Temperature → Fraction
 exact_coefficient w ts tr measured = 10 ^ 11 * (enthalpy_at w ts - enthalpy_at w tr) over (volume_at w measured * (distance_of ts tr).0)
 
--- the row "Coefficient" of the refusal table, behind those of the pair: "36; 37 if equal", where 36 is "ts < tr"
+-- The rows of the order: a supply colder than the return (36), and equally warm ones (37), which leave no kelvin to divide by.
 abbrev pub order_rows : Temperature → Temperature → List Row
 order_rows ts tr = row SupplyBelowReturn (is_colder ts tr) ∷ row DifferenceTooSmall (are_equal ts tr) ∷ []
 
--- all of it: "11; 32, 33 t above 18000; 36; 37 if equal", with 70 and 71 in the places of 32 and 33 (document 02, request 1)
+-- All rows of the operation: 11, 70, 71, 36, 37.
 abbrev pub coefficient_rows : Table → Temperature → Temperature → ℕ → List Row
 coefficient_rows w ts tr place = pair_rows w ts tr place ++ order_rows ts tr
 
--- the refusal, or else its floor
+-- What the operation answers: the refusal of the first row that applies, or else the exact coefficient rounded down.
 unfoldable pub coefficient_of : Table → Temperature → Temperature → ℕ → Result ℕ Refusal
 coefficient_of w ts tr place =
     result_and (first_of (coefficient_rows w ts tr place)) (Ok (floored (exact_coefficient w ts tr (at_place place ts tr))))

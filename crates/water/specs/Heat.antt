@@ -1,6 +1,7 @@
--- The heat of a volume, document 01, "Meter's step": "Its exact heat in mJ is 1000000×u×(H(ts)−H(tr))/V, V at the card's
--- place. An accepted sample adds the floor of it to the register [..] The fraction, not the floor, is what demand 3 adds up." And the cold of
--- one, where the supply is below the return: "the heat formula with the two enthalpies exchanged" (document 02, request 5).
+-- The heat of a volume of water, by OIML R 75-1: its mass times the difference of its specific enthalpies, in mJ. Its mass is its volume over the
+-- specific volume where the flow sensor measured it. If the supply is colder than the return it is cold instead: then the two enthalpies change
+-- places, and the place of the flow sensor stays. The exact fraction is what a register's exact sum adds up; rounded down, it is what the register
+-- itself gains. docs/FORMAT.md, "Heat and cold", and docs/OPERATIONS.md, "Water: table, heat coefficient, heat of a volume".
 use Rattle.std.specs.Prelude.{ℕ, ◌-◌, ◌*◌, cond, List, [], ◌∷◌, ◌++◌, ltb, Result, Ok}
 use Rattle.std.specs.Result.{result_and}
 use Rattle.quantity.specs.declared.units.Temperature.{Temperature}
@@ -15,22 +16,24 @@ use Rattle.water.specs.Table.{Table}
 use Rattle.water.specs.Interpolation.{enthalpy_at, volume_at}
 use Rattle.water.specs.Pair.{at_place, pair_rows}
 
--- the exact heat in mJ of u mL between a warm and a cold temperature, with the volume measured at a third
+-- The exact heat in mJ that u mL of water give off between a warm and a cold temperature, with V at the temperature of the measured water. The
+-- factor 1000000 leads from mL to the 10^-12 m³ of the table. The warm temperature has to be the warmer one, as `pair_heat` gives them: otherwise
+-- the difference stops at 0.
 unfoldable pub exact_heat : Table → ℕ → Temperature → Temperature → Temperature → Fraction
 exact_heat w u warm cold measured = 1000000 * u * (enthalpy_at w warm - enthalpy_at w cold) over volume_at w measured
 
--- The exact heat in mJ of u mL between a supply and a return temperature; where the supply is below the return, the exact cold: "the heat
--- formula with the two enthalpies exchanged". V is at the place's temperature either way.
+-- The exact heat of u mL between supply and return, or the exact cold where the supply is the colder. V is at the temperature of the place either
+-- way.
 unfoldable pub pair_heat : Table → ℕ → Temperature → Temperature → ℕ → Fraction
 pair_heat w u ts tr place =
     let measured = at_place place ts tr in
     cond (is_colder ts tr) (exact_heat w u tr ts measured) (exact_heat w u ts tr measured)
 
--- neither paper has a row for this operation by itself, so it takes the papers' numbers: those of the coefficient up to 71, then 31 of the
--- sample, "u above 1000000". It answers both orders of the two temperatures, so that 36 never comes.
+-- All rows of the operation: those of the pair (11, 70, 71), then a volume above 1000000 mL (31). Both orders of supply and return are answered,
+-- and equally warm ones have 0 mJ: so neither 36 nor 37 is given.
 abbrev pub heat_rows : Table → ℕ → Temperature → Temperature → ℕ → List Row
 heat_rows w u ts tr place = pair_rows w ts tr place ++ (row Volume (ltb 1000000 u) ∷ [])
 
--- the refusal, or else the heat
+-- What the operation answers: the refusal of the first row that applies, or else the exact heat or cold rounded down.
 unfoldable pub heat_of : Table → ℕ → Temperature → Temperature → ℕ → Result ℕ Refusal
 heat_of w u ts tr place = result_and (first_of (heat_rows w u ts tr place)) (Ok (floored (pair_heat w u ts tr place)))

@@ -1,22 +1,26 @@
--- IAPWS-IF97, region 1: the specific enthalpy and the specific volume of water as exact fractions, at any pressure and
--- temperature. The release's 34 rows and derivatives also stand in document 000, Annex A, Table 1, (A.3) and (A.5).
+-- Water by IAPWS-IF97, the industrial formulation of 1997 in its revised release of 2007: region 1, which is liquid water. Its specific enthalpy
+-- and its specific volume follow from one function γ of pressure and temperature, a sum of 34 terms, by derivatives. Here they are exact fractions,
+-- at any pressure and temperature. The rows and both derivatives are also printed in OIML R 75-1, Annex A: Table 1, (A.5) and (A.3).
+-- docs/FORMAT.md, "Water", has rows and formulas too.
 use Rattle.std.specs.Prelude.{ℕ, ◌^◌, List, [], ◌∷◌, ℤ, pos, neg_ℤ}
 use Rattle.std.proofs.Math.IntN.{pred_ℤ}
 use Rattle.water.specs.Signed.{SignedFraction, ◌per◌, integer, decimal_number, negated, ◌⊕◌, ◌⊖◌, ◌⊗◌, ◌⊘◌, power}
 
--- a row of the release's table: the exponents I and J and the coefficient n
+-- A row of Table 2 of the release: the exponents I and J and the coefficient n, which docs/FORMAT.md calls a.
 pub record Term : Type 0 where
   pub I : ℤ
   pub J : ℤ
   pub n : SignedFraction
 
+-- The negative of a whole number.
 abbrev pub neg : ℕ → ℤ
 neg k = neg_ℤ (pos k)
 
--- a row as it is printed: I; J; and n by its sign and its fourteen digits after "0.", and by its power of ten
+-- A row as it is printed: I; J; n by its sign and the fourteen digits after "0.", and by its power of ten.
 abbrev pub term : ℕ → ℤ → ℤ → ℤ → Term
 term i j digits e = record { I = pos i; J = j; n = (digits per 10 ^ 14) ⊗ power (decimal_number 10 0) e }
 
+-- The 34 rows, in the release's order. No computed fact reaches their last digits, so `tools/compare-if97-rows` compares them with a printed table.
 abbrev pub terms : List Term
 terms =
     term 0 (neg 2) (pos 146_329_712_131_67) (pos 0)
@@ -55,41 +59,42 @@ terms =
     ∷ term 32 (neg 41) (neg 935_370_872_924_58) (neg 25)
     ∷ []
 
--- Σ over the terms
+-- Σ: a value for each row, added up over rows.
 abbrev pub sum : (Term → SignedFraction) → List Term → SignedFraction
 sum f [] = integer (pos 0)
 sum f (r ∷ rs) = f r ⊕ sum f rs
 
--- γ = Σ n (7.1 − π)^I (τ − 1.222)^J
+-- The dimensionless Gibbs free energy, equation (7) of the release: γ is Σ n (7.1 − π)^I (τ − 1.222)^J. π stands for the pressure and τ for the
+-- temperature, as below.
 abbrev pub γ : SignedFraction → SignedFraction → SignedFraction
 γ π τ = sum (λ r. r.n ⊗ power (decimal_number 71 1 ⊖ π) r.I ⊗ power (τ ⊖ decimal_number 1222 3) r.J) terms
 
--- (A.5), the derivative by τ: Σ n (7.1 − π)^I J (τ − 1.222)^(J−1)
+-- Its derivative by τ, (A.5) of OIML R 75-1: Σ n (7.1 − π)^I J (τ − 1.222)^(J−1).
 abbrev pub γτ : SignedFraction → SignedFraction → SignedFraction
 γτ π τ =
     sum (λ r. r.n ⊗ power (decimal_number 71 1 ⊖ π) r.I ⊗ integer r.J ⊗ power (τ ⊖ decimal_number 1222 3) (pred_ℤ r.J)) terms
 
--- (A.3), the derivative by π: Σ −n I (7.1 − π)^(I−1) (τ − 1.222)^J
+-- Its derivative by π, (A.3) of OIML R 75-1: Σ −n I (7.1 − π)^(I−1) (τ − 1.222)^J.
 abbrev pub γπ : SignedFraction → SignedFraction → SignedFraction
 γπ π τ =
     sum (λ r. negated r.n ⊗ integer r.I ⊗ power (decimal_number 71 1 ⊖ π) (pred_ℤ r.I) ⊗ power (τ ⊖ decimal_number 1222 3) r.J) terms
 
--- R = 461.526 J/(kg K)
+-- The specific gas constant of water, R, in J/(kg K): 461.526.
 abbrev pub R : SignedFraction
 R = decimal_number 461526 3
 
--- π = p / p*, with p in MPa and p* = 16.53 MPa
+-- π: the pressure over p*, which is 16.53 MPa. The pressure is in MPa.
 abbrev pub reduced_pressure : SignedFraction → SignedFraction
 reduced_pressure p = p ⊘ decimal_number 1653 2
 
--- τ = 1386 / T, with T in K
+-- τ: 1386 K over the temperature, which is in K.
 abbrev pub reduced_temperature : SignedFraction → SignedFraction
 reduced_temperature T = decimal_number 1386 0 ⊘ T
 
--- h = R × 1386 × γτ in J/kg, at a pressure in MPa and a temperature in K
+-- The specific enthalpy in J/kg, R × 1386 × γτ, at a pressure in MPa and a temperature in K.
 unfoldable pub enthalpy : SignedFraction → SignedFraction → SignedFraction
 enthalpy p T = R ⊗ decimal_number 1386 0 ⊗ γτ (reduced_pressure p) (reduced_temperature T)
 
--- v = R × T × γπ / p* in m³/kg, at the same two, with p* = 16530000 Pa
+-- The specific volume in m³/kg, R × T × γπ / p*, at the same two. Here p* is in Pa, 16530000.
 unfoldable pub volume : SignedFraction → SignedFraction → SignedFraction
 volume p T = R ⊗ T ⊗ γπ (reduced_pressure p) (reduced_temperature T) ⊘ decimal_number 16530000 0

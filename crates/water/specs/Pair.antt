@@ -1,5 +1,6 @@
--- A supply and a return temperature, ts and tr, and the place where the volume is measured: what the heat coefficient and
--- the heat of a volume have in common. Document 01, "Card": "place (1 supply, 2 return: where volume is measured)".
+-- What the heat coefficient and the heat of a volume have in common: the supply temperature ts, the return temperature tr, and the place of the
+-- flow sensor. A place is 1 for the supply and 2 for the return, as on a card. docs/OPERATIONS.md, "Water: table, heat coefficient, heat of a
+-- volume".
 use Rattle.std.specs.Prelude.{ℕ, List, [], ◌∷◌, Bool, cond, not, ◌&&◌, eqb}
 use Rattle.quantity.specs.declared.units.Temperature.{Temperature}
 use Rattle.quantity.specs.declared.range.Role.TheVariants.{Supply, Return}
@@ -11,20 +12,21 @@ use Rattle.quantity.specs.declared.refusal.Refusal.TheVariants.{Place}
 use Rattle.quantity.specs.declared.refusal.Row.{Row}
 use Rattle.water.specs.Table.{Table}
 
--- the temperature at the place
+-- The temperature at the place, which is that of the water whose volume was measured. A place that is neither stands for the supply here; it is
+-- refused with 11.
 unfoldable pub at_place : ℕ → Temperature → Temperature → Temperature
 at_place place ts tr = cond (eqb place 2) tr ts
 
--- neither is below the other
+-- Two temperatures are equally warm: neither is below the other.
 abbrev pub are_equal : Temperature → Temperature → Bool
 are_equal a b = not (is_colder a b) && not (is_colder b a)
 
--- past the last degree of a table
+-- A temperature is above the last degree of a table.
 abbrev pub is_above : Table → Temperature → Bool
 is_above w t = is_colder (whole_degrees w.last) t
 
--- the row "Coefficient" of the refusal table up to 33: "11; 32, 33 t above 18000", where 11 is "place not 1 or 2"; with "70 supply and 71
--- return above 180.00 °C, in the places of 32 and 33" (document 02, request 1). No t is below 0.00 °C, so that 32 and 33 no longer come.
+-- The first rows of both operations: another place than 1 and 2 (11), ts above 180.00 °C (70), tr above it (71). A temperature that is given is
+-- never below 0.00 °C, so that 32 and 33 do not come here.
 abbrev pub pair_rows : Table → Temperature → Temperature → ℕ → List Row
 pair_rows w ts tr place =
     row Place (outside place 1 2)

@@ -1,4 +1,4 @@
-// The heat coefficient.
+// The heat coefficient (docs/OPERATIONS.md, "Water: table, heat coefficient, heat of a volume").
 ghost use Rattle.std.specs.Prelude.{◌≡◌, ◌<◌};
 ghost use Rattle.quantity.specs.Fractions.{floored};
 ghost use Rattle.quantity.specs.Refusals.{refusal_number, first_of, first_number};
@@ -11,9 +11,10 @@ use crate::interpolation::enthalpy_rise;
 use crate::pair::Pair;
 use quantity::{Refusal, Temperature, first_refusal};
 
-/// The heat coefficient of OIML R 75-1 in J/(m³ K), rounded down, of a supply and a return temperature, with the volume measured at the place, 1 supply
-/// or 2 return; or the first of the refusals 11 of the place, 70 and 71 above 180 °C, 36 of a supply below the return and 37 of two equal ones.
-/// Any content is answered, a rule of the project: so it takes the three apart, and `Pair` holds them once they are tested.
+/// The heat coefficient k of OIML R 75-1 in J/(m³ K), rounded down, of a supply and a return temperature, both in hundredths of °C, with the volume
+/// measured at a place, 1 supply or 2 return. It refuses another place (11), a supply above 180.00 °C (70), a return above it (71), a supply below
+/// the return (36), and two that are equal (37), the first of these that applies. Any numbers are answered: so it takes the three apart, and `Pair`
+/// holds them once they are tested.
 pub fn coefficient(ts: Temperature, tr: Temperature, place: u64) -> Result<u64, Refusal>
     ensures answer { result ≡ coefficient_of water ts tr place }
     ensures number { refusal_number result ≡ first_number (coefficient_rows water ts tr place) }
@@ -31,7 +32,7 @@ fn coefficient_by_rows(ts: Temperature, tr: Temperature, place: u64) -> Result<u
     Ok(pair.floored_coefficient())
 }
 
-// The supply has to be the warmer.
+// The supply has to be the warmer (36, 37).
 #[tactic(auto, using(crate::proofs::Passed::equal_exactly))]
 fn order_refusal(ts: Temperature, tr: Temperature) -> Result<(), Refusal>
     ensures { result ≡ first_of (order_rows ts tr) }
@@ -43,6 +44,7 @@ fn order_refusal(ts: Temperature, tr: Temperature) -> Result<(), Refusal>
 }
 
 impl Pair {
+    // The exact coefficient, rounded down, with the volume at the place.
     #[tactic(auto, unfolding(crate::specs::Coefficient::exact_coefficient))]
     fn floored_coefficient(self) -> u64
         requires { self.return_water.temperature.0 < self.supply_water.temperature.0 }

@@ -1,4 +1,4 @@
-// H(t) and V(t): 100 times the value between two entries of a table.
+// H(t) and V(t): 100 times what lies between two entries of the table.
 ghost use Rattle.std.specs.Prelude.{◌≡◌, ◌+◌, ◌-◌, ◌*◌, ◌<◌, ◌≤◌, length, get_or};
 ghost use Rattle.quantity.specs.Units.{last_hundredth};
 ghost use Rattle.water.specs.Table.{water};
@@ -7,7 +7,7 @@ ghost use Rattle.water.specs.Interpolation.{interpolated, enthalpy_at, volume_at
 use crate::tables::{ENTHALPY, VOLUME};
 use quantity::Temperature;
 
-// Water at a temperature of the table: H in 10^-2 mJ/kg and V in 10^-14 m³/kg, with the bounds that keep the code's products in range.
+// Water at a temperature of the range: H in 10^-2 mJ/kg and V in 10^-14 m³/kg, with the bounds that keep the code's products in range.
 #[derive(Clone, Copy)]
 pub(crate) struct WaterAt {
     pub(crate) temperature: Temperature,
@@ -21,7 +21,7 @@ pub(crate) struct WaterAt {
     ghost most_volume: { volume ≤ 113000000000 },
 }
 
-// The water at a temperature. What stands behind it need not ask again whether the table has the temperature.
+// The water at a temperature. What is done with it need not ask again whether the table has the temperature.
 pub(crate) fn water_at(temperature: Temperature) -> WaterAt
     requires { temperature.0 ≤ last_hundredth }
     ensures { result.temperature ≡ temperature }
@@ -33,7 +33,7 @@ pub(crate) fn water_at(temperature: Temperature) -> WaterAt
     }
 }
 
-// Of any table's entries, at hundredths of a degree.
+// Of the entries of either array, at hundredths of a degree.
 #[tactic(auto, using(crate::proofs::Interpolated::below_last, crate::proofs::Interpolated::from_last))]
 fn interpolate(entries: &[u32], t: u64) -> u64
     requires { t < 100 * length entries.now }
@@ -54,7 +54,7 @@ fn mixed(low: u32, high: u32, f: u64) -> u64
     (100 - f) * u64::from(low) + f * u64::from(high)
 }
 
-// H(warm) − H(cold).
+// H(warm) − H(cold), in 10^-2 mJ/kg.
 pub(crate) fn enthalpy_rise(warm: WaterAt, cold: WaterAt) -> u64
     requires { cold.temperature.0 ≤ warm.temperature.0 }
     ensures { result ≡ enthalpy_at water warm.temperature - enthalpy_at water cold.temperature }

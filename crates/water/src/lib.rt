@@ -1,5 +1,5 @@
-// Water at 1.6 MPa (document 01, "Water table"): the table of IAPWS-IF97, the values between its entries, the heat
-// coefficient and the heat of a volume.
+// Water at 1.6 MPa, by IAPWS-IF97: the table, the values between its entries, the heat coefficient, and the heat of a volume (docs/FORMAT.md,
+// "Water").
 #![tactic(auto)]
 
 mod heat_coefficient;

@@ -9,16 +9,17 @@ use quantity::{
     End, LAST_HUNDREDTH, Refusal, Role, Temperature, end_refusal, first_refusal, is_outside,
 };
 
-// The water in the supply and in the return pipe, and the place.
+// The water in the supply and in the return, and the place.
 #[derive(Clone, Copy)]
 pub(crate) struct Pair {
     pub(crate) supply_water: WaterAt,
     pub(crate) return_water: WaterAt,
-    // The papers' number, 1 or 2. An enum is no plainer: it would take row 11 out of the table of rows, to be matched once.
+    // 1 for the supply, 2 for the return. It stays a number, as it stands on a card, so that 11 is a row like the others.
     pub(crate) place: u64,
 }
 
 impl Pair {
+    // The two waters, or the first of the refusals 11, 70 and 71 that applies.
     pub(crate) fn new(ts: Temperature, tr: Temperature, place: u64) -> Result<Pair, Refusal>
         ensures rows { MatchResult result (λ _. first_of (pair_rows water ts tr place) ≡ Ok tt) (λ r. first_of (pair_rows water ts tr place) ≡ Err r) }
         ensures pair { IfOk result (λ p. (p.supply_water.temperature ≡ ts) × (p.return_water.temperature ≡ tr) × (p.place ≡ place)) }

@@ -1,10 +1,11 @@
-// The water table at 1.6 MPa: one entry for every whole degree from 0 to 180.
+// The water table at 1.6 MPa, from 0 to 180 °C (docs/FORMAT.md, "Water").
 ghost use Rattle.std.specs.Prelude.{◌≡◌};
 ghost use Rattle.water.specs.Table.{water, entry_of};
 
 use quantity::LAST_DEGREE;
 
-/// The water table at a whole degree, by IAPWS-IF97 at 1.6 MPa, rounded to nearest.
+/// An entry of the water table: what IAPWS-IF97 gives for a whole degree and a pressure of 1.6 MPa, rounded to the nearest whole number, a half
+/// upwards.
 #[derive(Clone, Copy, Debug, PartialEq, Eq)]
 pub struct Entry {
     /// specific enthalpy, in mJ/kg
@@ -13,11 +14,10 @@ pub struct Entry {
     pub volume: u64,
 }
 
-// One for every whole degree from 0 to the last.
+// One for each whole degree from 0 to the last.
 const ENTRIES: usize = LAST_DEGREE as usize + 1;
 
-// Two tables and not one of pairs: document 01, "Choosing the form by place", names "two constant tables of 181 numbers".
-// The specific enthalpy in mJ/kg.
+// Specific enthalpy in mJ/kg, by the degree. It has an array of its own, as the volume has, so that one function interpolates in either.
 pub(crate) const ENTHALPY: [u32; ENTRIES] = [
     1585887, 5796270, 10003604, 14208149, 18410140, 22609790, 26807293, 31002825, 35196546,
     39388604, 43579132, 47768250, 51956070, 56142693, 60328214, 64512717, 68696280, 72878976,
@@ -44,7 +44,7 @@ pub(crate) const ENTHALPY: [u32; ENTRIES] = [
     759088160, 763489075,
 ];
 
-// The specific volume in 10^-12 m³/kg.
+// Specific volume in 10^-12 m³/kg, by the degree.
 pub(crate) const VOLUME: [u32; ENTRIES] = [
     999394952, 999341893, 999306234, 999287387, 999284799, 999297954, 999326362, 999369567,
     999427136, 999498663, 999583764, 999682078, 999793261, 999916992, 1000052963, 1000200886,
@@ -71,7 +71,7 @@ pub(crate) const VOLUME: [u32; ENTRIES] = [
     1121467629, 1122806552, 1124155064, 1125513261, 1126881244,
 ];
 
-/// The entry of a whole degree Celsius, or none past the last, 180.
+/// The entry of a whole degree Celsius, or none past the last, 180. Nothing is refused.
 #[tactic(auto, using(crate::proofs::Entries::entry_at), unfolding(crate::specs::Table::entry_of))]
 pub fn table_entry(degree: u64) -> Option<Entry>
     ensures { result ≡ entry_of water degree }

@@ -1,4 +1,4 @@
-// The heat of a volume, and the cold of one.
+// The heat of a volume, and the cold of one (docs/FORMAT.md, "Heat and cold").
 ghost use Rattle.std.specs.Prelude.{◌≡◌, ◌≤◌};
 ghost use Rattle.water.specs.Table.{water};
 ghost use Rattle.quantity.specs.Fractions.{floored};
@@ -10,9 +10,10 @@ use crate::interpolation::enthalpy_rise;
 use crate::pair::Pair;
 use quantity::{Refusal, Temperature, first_refusal};
 
-/// The heat in mJ, rounded down, of u mL of water between a supply and a return temperature (OIML R 75-1), or its cold where the supply is the colder,
-/// with the volume measured at the place, 1 supply or 2 return; or the first of the refusals 11 of the place, 70 and 71 above 180 °C and 31 of more
-/// than a million mL. Any content is answered, a rule of the project: so it takes the three apart.
+/// The heat in mJ, rounded down, of u mL of water between a supply and a return temperature, both in hundredths of °C (OIML R 75-1), or its cold
+/// where the supply is the colder, with the volume measured at a place, 1 supply or 2 return. It refuses another place (11), a supply above
+/// 180.00 °C (70), a return above it (71), and more than a million mL (31), the first of these that applies. Any numbers are answered: so it takes
+/// the three apart.
 pub fn heat(u: u64, ts: Temperature, tr: Temperature, place: u64) -> Result<u64, Refusal>
     ensures answer { result ≡ heat_of water u ts tr place }
     ensures number { refusal_number result ≡ first_number (heat_rows water u ts tr place) }
