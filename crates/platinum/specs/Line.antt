@@ -29,7 +29,8 @@ BetweenEnds ratio = (W 0 ≤ ratio) × (ratio ≤ W last_hundredth)
 unfoldable pub line_point : ℕ → ℕ
 line_point ratio = (ratio - W 0) / slope
 
--- The temperature that a ratio would have if the curve lay above the line everywhere by as much as it does at t. For a ratio between the ends, and
--- for t up to the line's point, no difference in it stops at 0 (`fits` of proofs/Start.antt).
+-- The temperature that a ratio would have if the curve lay above the line everywhere by as much as it does at t. The search takes this step twice,
+-- from the line's point on, and is then at the answer or one hundredth above it. For a ratio between the ends, and for t up to the line's point, no
+-- difference here stops at 0 (`fits` of proofs/Start.antt).
 unfoldable pub next_from : ℕ → ℕ → ℕ
 next_from ratio t = line_point (ratio - above_line t)

@@ -43,7 +43,7 @@ pub record HasTemperature (n r : ℕ) : Type 0 where
   pub from : n * W 0 ≤ scaled r
   pub to : scaled r ≤ n * W last_hundredth
 
--- .. and its temperature is t if t is in the range, the resistance at t is not above the reading, and no larger temperature of the range is so.
+-- .. and its temperature is t if t is in the range, the resistance at t is not above the reading, and no larger temperature of the range has this.
 -- `MeasuredExactly` of specs/Theorems.antt says that the operation answers by these.
 pub record IsTemperature (n r t : ℕ) : Type 0 where
   pub in_range : t ≤ last_hundredth

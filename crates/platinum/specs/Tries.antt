@@ -1,5 +1,5 @@
--- How far from the line a search looks. Each temperature at which it works out the curve is a try. It keeps notes of its tries, the struct `Tries`
--- of the code: how many there were, which came first, and how far from that the farthest lay.
+-- How far from the line a search looks. Each temperature at which it works out the curve is a try. The search keeps notes of its tries, the struct
+-- `Tries` of the code: how many there were, which came first, and how far from that the farthest lay.
 use Rattle.std.specs.Prelude.{◌≡◌, ℕ, ◌+◌, ◌≤◌, ◌<◌, max}
 use Rattle.std.specs.Int.{abs_diff}
 use Rattle.platinum.specs.Line.{line_point}

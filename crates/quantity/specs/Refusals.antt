@@ -6,7 +6,8 @@ use Rattle.quantity.specs.declared.refusal.Refusal.{Refusal}
 use Rattle.quantity.specs.declared.refusal.Refusal.TheVariants as R
 use Rattle.quantity.specs.declared.refusal.Row.{Row}
 
--- Each refusal has a number of its own. A number that does not stand here is given by no operation.
+-- Each refusal has a number of its own. A number that does not stand here is given by no operation. src/refusal.rt says in a line what each refusal
+-- means.
 unfoldable pub number_of : Refusal → ℕ
 number_of R.Serial = 10
 number_of R.Place = 11

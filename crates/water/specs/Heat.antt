@@ -1,7 +1,8 @@
 -- The heat of a volume of water, by OIML R 75-1: its mass times the difference of its specific enthalpies, in mJ. Its mass is its volume over the
--- specific volume where the flow sensor measured it. If the supply is colder than the return it is cold instead: then the two enthalpies change
--- places, and the place of the flow sensor stays. The exact fraction is what a register's exact sum adds up; rounded down, it is what the register
--- itself gains. docs/FORMAT.md, "Heat and cold", and docs/OPERATIONS.md, "Water: table, heat coefficient, heat of a volume".
+-- specific volume where the flow sensor measured it. Where the supply is colder than the return the water has taken up heat, which counts as cold:
+-- then the two enthalpies are exchanged, and the place of the flow sensor stays. The exact fraction is what a register's exact sum adds up; rounded
+-- down, it is what the register itself gains. docs/FORMAT.md, "Heat and cold", and docs/OPERATIONS.md, "Water: table, heat coefficient, heat of a
+-- volume".
 use Rattle.std.specs.Prelude.{ℕ, ◌-◌, ◌*◌, cond, List, [], ◌∷◌, ◌++◌, ltb, Result, Ok}
 use Rattle.std.specs.Result.{result_and}
 use Rattle.quantity.specs.declared.units.Temperature.{Temperature}

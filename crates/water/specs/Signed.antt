@@ -25,7 +25,7 @@ decimal_number digits places = pos digits per 10 ^ places
 abbrev pub negated : SignedFraction → SignedFraction
 negated (n per d) = neg_ℤ n per d
 
--- 1 over a fraction: the two numbers exchanged, while the sign stays above. 0 has none.
+-- 1 over a fraction: the two numbers exchanged, while the sign stays with the upper one. 0 has none.
 abbrev pub reciprocal : SignedFraction → SignedFraction
 reciprocal (pos n per d) = pos d per n
 reciprocal (negsuc n per d) = neg_ℤ (pos d) per suc n
