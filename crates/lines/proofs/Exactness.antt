@@ -54,7 +54,7 @@ card_other e o = let z : ◌≡◌ {A = ℕ} 0 1 = cc o in omega arith
 later_other : (e : ℕ) → M.SampleOrEnd e ≡ M.Opening → ⊥
 later_other e o = let z : ◌≡◌ {A = ℕ} 0 1 = cc o in omega arith
 
--- ---- what may come: the opening, a card's line, or a sample's or the last
+-- ---- which line is due: the opening, a card's line, or a sample's or the last
 
 module _ (bs : List ℕ) where
   other : MayCome → Bool
@@ -71,7 +71,7 @@ module _ (bs : List ℕ) where
   later (M.Card e) = first_of (card_rows (card_of (numbers_in bs)))
   later (M.SampleOrEnd e) = Ok tt
 
-  -- where S and E may come, bytes whose first field is E begin with no line S, and the others with no line E
+  -- where a line S and line E both may stand, bytes whose first field is E begin with no line S, and the others with no line E
   end_no_sample : (e : ℕ) → same_bytes (first_in bs) (first_field totals) ≡ true → is_no_line e sample bs ≡ true
   unfolding is_no_line first_field same_bytes
   end_no_sample e h = misshapen_first (first_field sample) (count_of e sample) bs (rw (same_true (first_in bs) (first_field totals) h) refl)

@@ -7,6 +7,6 @@ use native.Mathlib.Omega.{arith}
 use lib.ListN.{length, take, drop, length-drop}
 use lib.Seq.{take_all}
 
--- all that follows a place
+-- all that follows a position
 pub rest_all : (bs : List ℕ) (at : ℕ) → take (length bs - at) (drop at bs) ≡ drop at bs
 rest_all bs at = take_all (length bs - at) (drop at bs) (omega (arith, length-drop at bs))

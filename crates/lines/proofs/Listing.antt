@@ -66,7 +66,7 @@ text_size first ns n e = simp length-append (omega (arith, e, fields_sum ns))
 
 -- ---- the text as it is put together
 
--- the first i numbers were put at the front of xs, which made ys, and k is the place after them
+-- the first i numbers were put at the front of xs, which made ys, and k is the position after them
 pub record Progress (xs ns ys : List ℕ) (k i : ℕ) : Type 0 where
   pub few : i ≤ length ns
   pub text : List ℕ

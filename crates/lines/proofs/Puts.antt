@@ -40,9 +40,9 @@ put_field (p ∷ ps) ys w x m h e =
     let none : drop (length ps) ps ≡ [] = drop-length ps in
     ap (λ (l : List ℕ). comma ∷ l) (rw (k, none, append-nil) (ys_is ∙ rw m))
 
--- ---- a text put into a buffer at a place
+-- ---- a text put into a buffer at a position
 
--- a part that was lent from a place on comes back with a text at its front
+-- a part that was lent from a position on comes back with a text at its front
 pub lent_back : (xs : List ℕ) (at n : ℕ) (t ys : List ℕ) → at ≤ length xs → n ≡ length t → ys ≡ t ++ drop n (take (length xs - at) (drop at xs))
     → take at xs ++ (ys ++ drop (length xs - at) (drop at xs)) ≡ put_at xs at t
 unfolding put_at
@@ -76,7 +76,7 @@ front_at xs t = let z : 0 + length t ≡ length t = omega arith in ap (λ (n : �
 pub length_front : (xs t : List ℕ) → length t ≤ length xs → length (put_front xs t) ≡ length xs
 length_front xs t h = simp (length-append, length-drop) (omega arith)
 
--- the text t was put at the front of xs, which made ys, and k is the place after it
+-- the text t was put at the front of xs, which made ys, and k is the position after it
 pub record Wrote (xs t ys : List ℕ) (k : ℕ) : Type 0 where
   pub holds : ys ≡ put_front xs t
   pub next : k ≡ length t

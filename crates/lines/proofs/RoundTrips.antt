@@ -81,7 +81,7 @@ reads_line l rest w = by l.edition l.line w
         let line : EditionLine = record { edition = e; line = L.End t } in
         reads_due (M.SampleOrEnd e) line rest refl (rw (first_read line rest)) refl w
 
--- the buffer from the place on, after a text was put there
+-- the buffer from the position on, after a text was put there
 pub put_from : (buf : List ℕ) (at : ℕ) (text : List ℕ) → at ≤ length buf → drop at (put_at buf at text) ≡ text ++ drop (at + length text) buf
 unfolding put_at
 put_from buf at text h = drop_at (take at buf) (text ++ drop (at + length text) buf) at (length-take-le at buf h)

@@ -37,7 +37,7 @@ module _ (size at : ℕ) (line : EditionLine) where
     pub by_text : first_of (content_rows line.line) ≡ Ok tt → first_of (write_rows size at line) ≡ first_of (text_rows (size - at) line)
     by_text e = by_content ∙ rw e
 
-  -- by stages: the place and the edition, the content, the text
+  -- by stages: the position and the edition, the content, the text
   abbrev pub before_content : Result Unit Refusal
   before_content = first_of (row R.PlaceBeyond (ltb size at) ∷ row R.Edition (is_other_edition line.edition) ∷ [])
 

@@ -1,4 +1,5 @@
--- The lines of an archive, document 01, "Archive text", each in its edition (document 02, requests 2 and 5), and the bytes of each.
+-- The lines of a file and their bytes (docs/FORMAT.md, "Bytes, lines and numbers" and the sections on the lines C, S and E). A line has a first
+-- field, then its numbers, each behind a comma, and then a line feed. Each line stands in an edition, which decides how many totals line E has.
 use Rattle.std.specs.Prelude.{ℕ, cond, List, [], ◌∷◌, ◌++◌, map, get_or, take, drop}
 use Rattle.quantity.specs.declared.refusal.Row.{Row}
 use Rattle.meter.specs.Edition.{keeps_seconds, counts_cold}
@@ -14,39 +15,40 @@ use Rattle.lines.specs.declared.line.Line.TheVariants as L
 use Rattle.lines.specs.declared.line.EditionLine.{EditionLine}
 use Rattle.lines.specs.declared.line.Totals.{Totals}
 
--- the kinds of line
+-- The four kinds of line: the opening, which docs/FORMAT.md calls the heading; the card's line C; a sample's line S; and line E, with the totals.
 pub data LineKind : Type 0 where
   opening : LineKind
   card : LineKind
   sample : LineKind
   totals : LineKind
 
+-- the kind that a line is of
 unfoldable pub kind_of : Line → LineKind
 kind_of L.Opening = opening
 kind_of (L.Card c) = card
 kind_of (L.Sample s) = sample
 kind_of (L.End t) = totals
 
--- a line's first field: HEATARCHIVE in the opening, and the letter C, S or E in the others
+-- what a line of a kind begins with: the word in the opening, a letter in the others
 unfoldable pub first_field : LineKind → List ℕ
 first_field opening = archive_word
 first_field card = letter_c ∷ []
 first_field sample = letter_s ∷ []
 first_field totals = letter_e ∷ []
 
--- how many numbers line E has in the newest edition, which has the most
+-- how many totals line E has in the newest edition; none has more
 abbrev pub totals_fields : ℕ
 totals_fields = 6
 
--- how many numbers a line of a kind has after it in an edition: those of E are "accepted, refused, register, volume"; the kept seconds "stand as
--- a fifth field on the E line" in an edition that keeps them, and "HEATARCHIVE,3 adds the cold register as a sixth E field"
+-- How many numbers follow the first field. The opening has one, its edition. Line E has four totals in every edition; a fifth, the kept seconds,
+-- where the edition keeps them, and a sixth, the cold register, where it counts cold.
 unfoldable pub count_of : ℕ → LineKind → ℕ
 count_of e opening = 1
 count_of e card = card_fields
 count_of e sample = sample_fields
 count_of e totals = cond (counts_cold e) totals_fields (cond (keeps_seconds e) 5 4)
 
--- the totals of a meter's end state, and their numbers
+-- the totals that a meter has come to
 abbrev pub totals_of : Meter → Totals
 totals_of m = record {
   accepted = m.accepted;
@@ -57,11 +59,12 @@ totals_of m = record {
   cold_register = m.cold_register;
 }
 
+-- the totals in the order of line E
 abbrev pub totals_numbers : Totals → List ℕ
 totals_numbers t = t.accepted ∷ t.refused ∷ t.heat_register ∷ t.volume ∷ t.kept_seconds ∷ t.cold_register ∷ []
 
--- The numbers that a line can have, in order: the edition in the opening; "one line C with the card's twelve fields, any count of lines S
--- with a sample's four, one line E with accepted, refused, register, volume", the kept seconds and the cold register.
+-- All numbers that a line can have, in their order: the opening its edition, line C the card's, a line S the sample's, and line E all six totals,
+-- also those that its edition lacks.
 unfoldable pub all_numbers_of : EditionLine → List ℕ
 all_numbers_of l = by l.line
   where
@@ -71,23 +74,23 @@ all_numbers_of l = by l.line
     by (L.Sample s) = sample_numbers s
     by (L.End t) = totals_numbers t
 
--- those that it has in its edition, and those "in a field that the edition lacks"
+-- Those that stand on it in its edition, and those that do not: of line E the totals that its edition lacks, of the other lines none.
 unfoldable pub numbers_of : EditionLine → List ℕ
 numbers_of l = take (count_of l.edition (kind_of l.line)) (all_numbers_of l)
 
 unfoldable pub lacked_of : EditionLine → List ℕ
 lacked_of l = drop (count_of l.edition (kind_of l.line)) (all_numbers_of l)
 
--- "Fields are parted by commas, no quoting": fields, each after a comma
+-- fields, each behind a comma
 unfoldable pub after_commas : List (List ℕ) → List ℕ
 after_commas [] = []
 after_commas (f ∷ fs) = comma ∷ (f ++ after_commas fs)
 
--- "Lines end with byte 0A (hexadecimal)": the first field, the numbers, and the end
+-- a line's text: its first field, the numbers behind it, and the line feed
 unfoldable pub text_of : List ℕ → List ℕ → List ℕ
 text_of first numbers = first ++ (after_commas (map decimal numbers) ++ (line_feed ∷ []))
 
--- the bytes of a line
+-- the bytes of a line in its edition
 unfoldable pub bytes_of : EditionLine → List ℕ
 bytes_of l = text_of (first_field (kind_of l.line)) (numbers_of l)
 
@@ -98,18 +101,19 @@ in_edition e line = record { edition = e; line = line }
 abbrev pub opening_in : ℕ → EditionLine
 opening_in e = in_edition e L.Opening
 
--- the rows of a line's own content, in reader and writer: "card numbers"
+-- The rows on what a line says, for reader and writer alike, a row being a refusal with its condition. A card is refused by its own, 10 to 18. A
+-- sample may be any four numbers, and the totals may be any: only the audit can tell whether they are right.
 unfoldable pub content_rows : Line → List Row
 content_rows L.Opening = []
 content_rows (L.Card c) = card_rows c
 content_rows (L.Sample s) = []
 content_rows (L.End t) = []
 
--- "The first 14 bytes are HEATARCHIVE,1 and a line feed", or HEATARCHIVE,2 or HEATARCHIVE,3
+-- how many bytes an opening has in each edition, its line feed among them
 abbrev pub opening_length : ℕ
 opening_length = 14
 
--- the card of its fields
+-- the card of a list of twelve numbers in the order of line C; one that is not there is taken for 0
 unfoldable pub card_of : List ℕ → Card
 card_of ns = record {
   serial = get_or ns 0 0;
@@ -126,7 +130,7 @@ card_of ns = record {
   ps = get_or ns 11 0;
 }
 
--- the sample of its numbers, and the totals of theirs
+-- the sample of the four numbers of a line S, and the totals of the numbers of line E; those that are not there, since the edition lacks them, are 0
 abbrev pub sample_from : List ℕ → Sample
 sample_from ns = record { pulses = get_or ns 0 0; seconds = get_or ns 1 0; supply_reading = get_or ns 2 0; return_reading = get_or ns 3 0 }
 
@@ -140,8 +144,8 @@ totals_from ns = record {
   cold_register = get_or ns 5 0;
 }
 
--- The line of a kind with given numbers, as many as it has, and 0 for a field that the edition lacks; `line_of_lem` and `numbers_line`
--- of proofs/LineLaws.antt tie it to `numbers_of`.
+-- The line of a kind with these numbers. The opening's only number is its edition, which stands beside the line and not in it. `line_of_lem` and
+-- `numbers_line` of proofs/LineLaws.antt tie this to `numbers_of`.
 unfoldable pub line_of : LineKind → List ℕ → Line
 line_of opening ns = L.Opening
 line_of card ns = L.Card (card_of ns)

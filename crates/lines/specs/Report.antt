@@ -1,5 +1,5 @@
--- The line that the audit program prints, document 01, "Edges to try": "prints R, serial, accepted, refused, register, volume; or X, refusal, line;
--- ended by byte 0A". It is parted and ended as the archive's lines are.
+-- The line that the audit program prints (docs/OPERATIONS.md, "The audit and the program"): for an accepted file the letter R and what the file ends
+-- with, for a refused one the letter X, the refusal's number and the line of the file. Commas and line feed stand in it as in a file's lines.
 use Rattle.std.specs.Prelude.{ℕ, ◌+◌, ◌*◌, List, [], ◌∷◌, length, replicate}
 use Rattle.lines.specs.Bytes.{letter_r, letter_x}
 use Rattle.lines.specs.Number.{most_digits64}
@@ -9,18 +9,19 @@ use Rattle.lines.specs.declared.report.OutputLine.{OutputLine}
 use Rattle.lines.specs.declared.report.Report.{Report}
 use Rattle.lines.specs.declared.report.Report.TheVariants as R
 
+-- the text of either line
 unfoldable pub report_text : Report → List ℕ
 report_text (R.EndState serial accepted refused heat_register volume) = text_of (letter_r ∷ []) (serial ∷ accepted ∷ refused ∷ heat_register ∷ volume ∷ [])
 report_text (R.Refused number line) = text_of (letter_x ∷ []) (number ∷ line ∷ [])
 
--- an output line has at most five numbers
+-- the most numbers of a printed line, those of R
 abbrev pub most_reported : ℕ
 most_reported = 5
 
--- the bytes of the longest output line: a letter, five numbers of 64 bits, each a comma and at most 20 digits, and the line feed
+-- the room for any printed line: its letter, as many numbers as it can have, each a comma and the most digits of 64 bits, and the line feed
 abbrev pub longest_output : ℕ
 longest_output = 1 + most_reported * (1 + most_digits64) + 1
 
--- a text at the front of that many bytes, the others being zero, and its length
+-- That much room with a text at its front and zeros behind it, and the text's length: so the line is given by value, and no buffer can be too short.
 unfoldable pub output_of : List ℕ → OutputLine
 output_of text = record { bytes = put_at (replicate longest_output 0) 0 text; length = length text }

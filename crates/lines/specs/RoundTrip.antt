@@ -1,4 +1,5 @@
--- What reader and writer have to do with each other, and what a refusal of the reader says: what the theorems of specs/Theorems.antt give.
+-- What reader and writer have to do with each other, and what a refusal of the reader says. A line that was written is read back; one that was read
+-- is written as the same bytes; and each refusal has one cause. The theorems of specs/Theorems.antt say so of all lines and bytes.
 use Rattle.std.specs.Prelude.{◌≡◌, Bool, true, false, ◌&&◌, List, ◌++◌, ◌⊎◌, ℕ, ◌-◌, length, drop, Err}
 use Rattle.quantity.specs.Refusals.{first_of}
 use Rattle.quantity.specs.declared.refusal.Refusal.{Refusal}
@@ -14,7 +15,7 @@ use Rattle.lines.specs.declared.line.EditionLine.{EditionLine}
 use Rattle.lines.specs.declared.line.MayCome.{MayCome}
 use Rattle.lines.specs.declared.line.MayCome.TheVariants as M
 
--- what may come where a line of an edition stands, as the reader is told
+-- what the reader is told where a line of an edition is due
 unfoldable pub told_in : ℕ → Line → MayCome
 told_in e L.Opening = M.Opening
 told_in e (L.Card c) = M.Card e
@@ -24,14 +25,14 @@ told_in e (L.End t) = M.SampleOrEnd e
 abbrev pub told_of : EditionLine → MayCome
 told_of l = told_in l.edition l.line
 
--- Writing, then reading. Where the writer answered the place next and left the buffer so, what stands from the old place on, read by a reader
--- told that kind and edition, or finding the edition in the opening, gives the line in its edition and the buffer after next.
+-- Written, then read. The buffer is as the writer left it, with the line from the position at up to next. A reader of the bytes from at on, told that
+-- this line is due, answers the line with its edition and size, and hands back the bytes from next on.
 pub record ReadsBack (buf : List ℕ) (at : ℕ) (line : EditionLine) (next : ℕ) : Type 0 where
   pub answer : read_of (told_of line) (drop at buf) ≡ front_of line (next - at)
   pub rest : rest_of (drop at buf) (read_of (told_of line) (drop at buf)) ≡ drop next buf
 
--- Reading, then writing. Where the reader answered a line and a count of bytes, the line is of a kind that may come and of the edition that was
--- told, its bytes are those, and the writer can write it: it refuses it only for the buffer's sake.
+-- Read, then written. The reader answered the line and its size n. The line is of a kind that was due, and of the edition that was told; its bytes
+-- are those that were read, n of them; and the writer can write it. It refuses it for the buffer's sake alone: with 67 or 66.
 pub record WritesBack (may : MayCome) (bs : List ℕ) (line : EditionLine) (n : ℕ) : Type 0 where
   pub kind : told_of line ≡ may
   pub bytes : bytes_of line ++ rest_of bs (front_of line n) ≡ bs
@@ -39,18 +40,19 @@ pub record WritesBack (may : MayCome) (bs : List ℕ) (line : EditionLine) (n : 
   pub writable : Writable line
   pub refused_only : (size at : ℕ) (r : Refusal) → written_of size at line ≡ Err r → (r ≡ R.PlaceBeyond) ⊎ (r ≡ R.Room)
 
--- the bytes begin with no line of a kind in an edition
+-- whether the bytes begin with nothing that has the shape of a line of a kind in an edition
 unfoldable pub is_no_line : ℕ → LineKind → List ℕ → Bool
 is_no_line e k bs = is_misshapen (first_field k) (count_of e k) bs
 
--- nor with any that may come there: where S and E may come, with neither. An opening is told by its edition alone.
+-- Whether they begin with nothing of the shape of a line that is due: where a line S and line E both may stand, with neither. An opening has no such
+-- condition, since its edition tells it.
 abbrev pub is_misshapen_due : MayCome → List ℕ → Bool
 is_misshapen_due M.Opening bs = false
 is_misshapen_due (M.Card e) bs = is_no_line e card bs
 is_misshapen_due (M.SampleOrEnd e) bs = is_no_line e sample bs && is_no_line e totals bs
 
--- What a refusal of the reader says: its own condition holds, and none before it. That of the edition, where the opening is due, says that the bytes
--- begin with no edition's opening.
+-- The cause of a refusal: its own condition holds, and none before it. 60: what was told is no edition, or no edition's opening stands there. 61: no
+-- line that is due has such a shape. 62: a field after the first is no number, in any line but an opening. 10 to 18: the card is not allowed.
 pub data Cause (bs : List ℕ) : MayCome → Refusal → Type 0 where
   other_edition : {may : MayCome} → is_other_edition (edition_in may bs) ≡ true → Cause bs may R.Edition
   misshapen : {may : MayCome} → is_other_edition (edition_in may bs) ≡ false → is_misshapen_due may bs ≡ true → Cause bs may R.Shape

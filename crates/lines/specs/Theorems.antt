@@ -1,5 +1,6 @@
--- The statements of this crate's theorems: of one answer, over what was asked and what is answered; and of writer and reader together. Each is proved in
--- proofs/ under the same name in small letters, and is a clause of that name.
+-- The statements of this crate's theorems. Those of the first part speak of one call, what was asked and what is answered; then come those of writer
+-- and reader together, and of a line's bytes. A statement has its name in small letters in proofs/, where it is proved, and in the contract that
+-- promises it.
 use Rattle.std.specs.Prelude.{◌≡◌, false, List, ◌∷◌, [], ◌++◌, ◌↔◌, ℕ, ◌+◌, ◌≤◌, length, Result, Ok, Err, IfOk}
 use Rattle.quantity.specs.Refusals.{NoneApplies}
 use Rattle.quantity.specs.declared.refusal.Refusal.{Refusal}
@@ -17,58 +18,59 @@ use Rattle.lines.specs.declared.line.MayCome.{MayCome}
 
 -- ---- of one answer
 
--- a line can be written where its edition is one, no row of its content refuses it, no number of it has over 18 digits, and its lacking fields are zero
+-- What makes a line one that can be written: its edition exists, no row on what it says applies, no number on it has over 18 digits, and the totals
+-- that its edition lacks are 0.
 pub record CanBeWritten (line : EditionLine) : Type 0 where
   pub edition : is_other_edition line.edition ≡ false
   pub content : NoneApplies (content_rows line.line)
   pub short : some_long (numbers_of line) ≡ false
   pub lacked_zero : some_nonzero (lacked_of line) ≡ false
 
--- and its bytes have room from a place on, up to the next one
+-- And it has room: from the position at on its bytes end at next, which is not beyond the buffer.
 pub record Fits (size at : ℕ) (line : EditionLine) (next : ℕ) : Type 0 where
   pub can : CanBeWritten line
   pub ends : next ≡ at + length (bytes_of line)
   pub room : next ≤ size
 
--- the writer answers a next place exactly where the line can be written and fits
+-- The writer answers the position next exactly where the line can be written and fits in up to there.
 abbrev pub WrittenExactly : ℕ → ℕ → EditionLine → Result ℕ Refusal → Type 0
 WrittenExactly size at line answer = (next : ℕ) → (answer ≡ Ok next) ↔ Fits size at line next
 
--- the reader gives a refusal exactly where that refusal's own condition is the first that holds
+-- The reader gives a refusal exactly where that refusal's own condition is the first that holds.
 abbrev pub RefusedExactly : MayCome → List ℕ → Result Front Refusal → Type 0
 RefusedExactly may bs answer = (r : Refusal) → (answer ≡ Err r) ↔ Cause bs may r
 
--- a line that was read takes at least one byte and no more than there are
+-- A line that was read takes at least one byte and no more than there are.
 abbrev pub ReadWithin : List ℕ → Result Front Refusal → Type 0
 ReadWithin bs answer = IfOk answer (λ front. (1 ≤ front.size) × (front.size ≤ length bs))
 
 -- ---- of writer and reader together
 
--- a line that was written is read back
+-- For every buffer, position and line: what was written is read back.
 abbrev pub WrittenThenRead : Type 0
 WrittenThenRead =
     (buf : List ℕ) (at : ℕ) (line : EditionLine) (next : ℕ)
     → written_of (length buf) at line ≡ Ok next → ReadsBack (buffer_after buf at (bytes_of line) (Ok next)) at line next
 
--- a line that was read is written as it was
+-- For all bytes, whatever line is due: what was read is written as it was.
 abbrev pub ReadThenWritten : Type 0
 ReadThenWritten = (may : MayCome) (bs : List ℕ) (line : EditionLine) (n : ℕ) → read_of may bs ≡ front_of line n → WritesBack may bs line n
 
 -- ---- of a line's bytes
 
--- the same line: and where it is an opening, the same edition, since only the opening names it
+-- Two lines are the same; openings are of the same edition too, which stands in their bytes and in no other line's.
 pub record SameLine (k l : EditionLine) : Type 0 where
   pub line : k.line ≡ l.line
   pub edition : k.line ≡ L.Opening → k.edition ≡ l.edition
 
--- Bytes that begin with a line's bytes begin with no other line's: for any editions and any lines whose lacking fields are zero, also those that
--- the writer refuses.
+-- Bytes that begin with one line's bytes begin with no other's. It holds in any editions, and also of lines that the writer refuses, if the totals
+-- that the edition lacks are 0.
 abbrev pub OneLine : Type 0
 OneLine =
     (k l : EditionLine) (s t : List ℕ) → some_nonzero (lacked_of k) ≡ false → some_nonzero (lacked_of l) ≡ false → bytes_of k ++ s ≡ bytes_of l ++ t →
     SameLine k l × (s ≡ t)
 
--- an edition's opening is the word, a comma, the edition's digit and a line feed, and so 14 bytes
+-- The opening of an edition is the word, a comma, the edition's digit and a line feed, which are 14 bytes.
 abbrev pub OpeningBytes : Type 0
 OpeningBytes =
     (e : ℕ) → is_other_edition e ≡ false →

@@ -1,11 +1,12 @@
-// The refusal of a line whose numbers could not all be read. Only such a line is gone through a second time.
+// The refusal of a line whose numbers could not all be read: 61 or 62. Only such a line is gone through a second time, so that good lines are read
+// once.
 ghost use Rattle.std.specs.Prelude.{◌≡◌, ◌==◌, not, cond, [], length, count_by, position};
 ghost use Rattle.lines.specs.Bytes.{line_feed, comma};
 ghost use Rattle.lines.specs.Reading.{same_bytes, is_ended, first_in, others_in, is_misshapen};
 
 use quantity::Refusal;
 
-// That of the shape for a line that has not its shape, and otherwise that of a number, by what follows its letter.
+// 61 for a line that has not its shape, and otherwise 62, by what follows its letter. The line is known to be refused.
 pub(crate) fn fault(after: &[u8], count: usize) -> Refusal
     ensures { result ≡ cond (is_misshapen [] count after.now) Refusal.Shape Refusal.Number }
 {
@@ -16,7 +17,7 @@ pub(crate) fn fault(after: &[u8], count: usize) -> Refusal
     }
 }
 
-// Whether the line is unended, its first field is not the letter alone, or it has not count numbers.
+// Whether the line is not ended, its first field is more than the letter, or it has not count fields behind that.
 #[tactic(auto, using(crate::proofs::Faults::misshapen_first))]
 fn is_misshapen(after: &[u8], count: usize) -> bool
     ensures { result ≡ is_misshapen [] count after.now }
@@ -44,6 +45,7 @@ fn commas_in(after: &[u8]) -> Option<usize>
     Some(count_commas(&after[..end]))
 }
 
+// Where the line feed stands.
 fn line_end(after: &[u8]) -> Option<usize>
     ensures { result ≡ position (λ b. b == line_feed) after.now }
 {

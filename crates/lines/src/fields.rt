@@ -1,4 +1,4 @@
-// The numbers of a line, read one after the other.
+// The numbers of a line, read one after the other behind its letter.
 ghost use Rattle.lines.specs.Inside.Parts.{NumbersRead};
 
 use crate::fault::fault;
@@ -6,7 +6,7 @@ use crate::number::read_field;
 use quantity::Refusal;
 
 // Reads the numbers after a line's letter into out, as many as it holds, and answers how many bytes the line takes, its letter among them, or the
-// refusal. Each field is taken by `let .. else`, a form that document 01 names.
+// refusal, 61 or 62. The first field that is no number ends the reading: what is wrong with the line is then told by `fault`.
 #[tactic(auto, using(crate::proofs::Turns::ends))]
 pub(crate) fn read_numbers(after: &[u8], out: &mut [u64]) -> Result<usize, Refusal>
     ensures { NumbersRead after.now out.new result }

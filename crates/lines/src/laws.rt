@@ -1,18 +1,18 @@
-// What is proved of writer and reader together, and of a line's bytes.
+// What is proved of writer and reader together, and of a line's bytes. These functions do nothing: their contracts are the statements.
 ghost use Rattle.lines.specs.Theorems.{WrittenThenRead, ReadThenWritten, OneLine, OpeningBytes};
 
-/// A line that was written is read back, and one that was read is written as it was.
+/// A line that `write_line` wrote is read back by `read_line`, and one that was read is written as the same bytes.
 pub fn lines_survive()
     ensures written_then_read { WrittenThenRead }
     ensures read_then_written { ReadThenWritten }
 {}
 
-/// No line's bytes begin another line's.
+/// No line's bytes begin another line's, so that bytes can be read as one line only.
 pub fn one_line()
     ensures { OneLine }
 {}
 
-/// An edition's opening is the word, a comma, the edition's digit and a line feed: 14 bytes.
+/// The opening of an edition is HEATARCHIVE, a comma, the edition's digit and a line feed: 14 bytes.
 pub fn opening_bytes()
     ensures { OpeningBytes }
 {}

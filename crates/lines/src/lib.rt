@@ -1,4 +1,5 @@
-// The archive's lines (document 01, "Archive text"): the writer and the reader of one line; and the audit program's output line.
+// One line of an archive, read and written (docs/FORMAT.md has its form, docs/OPERATIONS.md under "One line: reading and writing" what reader and
+// writer answer); and the line that the audit program prints.
 #![tactic(auto)]
 
 mod fault;

@@ -1,22 +1,28 @@
-// The lines of an archive, each in its edition, and what their reader and their writer answer.
+// The lines of an archive as data, each with its edition, and what a reader of lines or of files answers.
 use meter::{Card, Meter, Sample};
 use quantity::Refusal;
 
-/// The numbers of line E in the newest edition, which has the most.
+/// How many totals line E has in the newest edition, which has the most.
 pub const TOTALS_FIELDS: usize = 6;
 
-/// What line E carries, in its order: a meter's end state, with heat and cold in mJ, the volume in mL and the kept seconds. Every edition's fields stand
-/// here; one that an edition lacks is zero.
+/// What line E carries, in its order (docs/FORMAT.md, "Line E: the totals"). All six totals stand here in any edition; one that the edition lacks is
+/// 0 where it was read, and has to be 0 to be written.
 #[derive(Clone, Copy, Debug, PartialEq, Eq)]
 pub struct Totals {
+    /// How many samples were accepted, and how many refused.
     pub accepted: u64,
     pub refused: u64,
+    /// In mJ.
     pub heat_register: u64,
+    /// In mL.
     pub volume: u64,
+    /// The seconds of accepted samples with a flow above qs; from edition 2 on.
     pub kept_seconds: u64,
+    /// In mJ; in edition 3.
     pub cold_register: u64,
 }
 
+// The totals of their numbers, in the order of line E.
 impl From<[u64; TOTALS_FIELDS]> for Totals {
     ghost use Rattle.std.specs.Prelude.{◌≡◌};
     ghost use Rattle.lines.specs.Line.{totals_from};
@@ -43,6 +49,7 @@ impl From<[u64; TOTALS_FIELDS]> for Totals {
     }
 }
 
+// And their numbers, in that order.
 impl From<Totals> for [u64; TOTALS_FIELDS] {
     ghost use Rattle.std.specs.Prelude.{◌≡◌};
     ghost use Rattle.lines.specs.Line.{totals_numbers};
@@ -61,7 +68,7 @@ impl From<Totals> for [u64; TOTALS_FIELDS] {
     }
 }
 
-// The totals of a meter's end state.
+// The totals that a meter has come to.
 impl From<Meter> for Totals {
     ghost use Rattle.std.specs.Prelude.{◌≡◌};
     ghost use Rattle.lines.specs.Line.{totals_of};
@@ -80,7 +87,8 @@ impl From<Meter> for Totals {
     }
 }
 
-/// A line, by its kind. Any content can stand here.
+/// A line, by its kind: the opening (the heading, in docs/FORMAT.md), the card's line C, a sample's line S, or line E with the totals. Any numbers
+/// can stand here: whether they may be read or written is for reader and writer to say.
 #[derive(Clone, Copy, Debug, PartialEq, Eq)]
 pub enum Line {
     Opening,
@@ -89,14 +97,16 @@ pub enum Line {
     End(Totals),
 }
 
-/// What is read and written: a line in its edition. The opening names the edition; the other lines stand in that of their opening.
+/// What is read and written: a line with its edition, 1, 2 or 3. The opening names the edition in its bytes; the other lines stand in that of their
+/// opening.
 #[derive(Clone, Copy, Debug, PartialEq, Eq)]
 pub struct EditionLine {
     pub edition: u64,
     pub line: Line,
 }
 
-/// What may come, as the reader is told, with the edition of every line but the opening.
+/// Which line is due, as the reader is told: the opening, whose edition is found; or, in a given edition, a card, or a sample or the totals, of
+/// which the letter tells.
 #[derive(Clone, Copy, Debug, PartialEq, Eq)]
 pub enum MayCome {
     Opening,
@@ -104,14 +114,14 @@ pub enum MayCome {
     SampleOrEnd(u64),
 }
 
-/// What stands at the front of some bytes: a line in its edition, and how many bytes it takes.
+/// What stands at the front of some bytes: a line with its edition, and how many bytes it takes, its line feed among them.
 #[derive(Clone, Copy, Debug, PartialEq, Eq)]
 pub struct Front {
     pub line: EditionLine,
     pub size: usize,
 }
 
-/// The refusal of a file, and the number of the line at which it stands.
+/// The refusal of a file, and the line at which it is refused, counted from 1.
 #[derive(Clone, Copy, Debug, PartialEq, Eq)]
 pub struct RefusedAt {
     pub refusal: Refusal,

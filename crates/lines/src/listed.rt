@@ -1,4 +1,5 @@
-// A line's numbers as a list: those that it has in its edition, and those that its edition lacks.
+// A line's numbers as a list: those that stand on it in its edition, and those that its edition lacks. The writer writes the former and looks at
+// both.
 ghost use Rattle.std.specs.Prelude.{◌≡◌, ◌+◌, ◌≤◌, length, leb, sum_by};
 ghost use Rattle.std.specs.List.{list_any};
 ghost use Rattle.lines.specs.Number.{decimal};
@@ -11,14 +12,14 @@ use crate::opening::opening_word;
 use meter::{CARD_FIELDS, SAMPLE_FIELDS, counts_cold, keeps_seconds};
 use std::marker::Model;
 
-// The card's line has the most numbers.
+// The most numbers of any line: the card's line has them.
 pub(crate) const MOST_NUMBERS: usize = CARD_FIELDS;
 
-// Of the lines after it, the last one has the most, in the newest edition.
+// The most numbers of line E, those of the newest edition; a sample's line has fewer.
 pub(crate) const MOST_LATER: usize = TOTALS_FIELDS;
 
-// The first count of the numbers are those that a line can have, and of these it has the first shown. No vector of fixed room would do for both
-// lengths, so the model says what the two mean, and no function outside sees them.
+// The first count of the numbers are those that a line can have, and the first shown of these stand on it. Two lengths go with one array: the model
+// says what they mean, and no function outside sees them.
 #[derive(Debug, Drop)]
 pub(crate) struct Listed {
     numbers: [u64; MOST_NUMBERS],
@@ -38,7 +39,7 @@ impl Model for Listed {
 }
 
 impl Listed {
-    // The numbers, of which the line has the first shown.
+    // These numbers, of which the first shown stand on the line.
     fn new(numbers: &[u64], shown: usize) -> Listed
         requires { (length numbers.now ≤ most_numbers) × (shown ≤ length numbers.now) }
         ensures { result ≡ parted_at shown numbers.now }
@@ -53,7 +54,7 @@ impl Listed {
         }
     }
 
-    // Those that the line has.
+    // Those that stand on the line.
     pub(crate) fn shown(&self) -> &[u64]
         ensures { result.now ≡ self.now.shown }
     {
@@ -68,7 +69,7 @@ impl Listed {
     }
 }
 
-// The numbers of a line in its edition, in the papers' order.
+// The numbers of a line in its edition, in the order in which they stand on it.
 #[tactic(auto, unfolding(crate::specs::Line::kind_of, crate::specs::Line::count_of, crate::specs::Line::all_numbers_of, meter::specs::Card::fields_of, meter::specs::Sample::sample_numbers))]
 pub(crate) fn numbers_of(what: EditionLine) -> Listed
     ensures { result ≡ numbers_parted what }

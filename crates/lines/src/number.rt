@@ -1,14 +1,16 @@
-// One number of a line: its digits, read and written.
+// One number of a line, read and written: 1 to 18 digits, with no 0 in front of others (docs/FORMAT.md, "Bytes, lines and numbers").
 ghost use Rattle.std.specs.Prelude.{◌≡◌, ◌++◌, ◌∷◌, ◌+◌, ◌≤◌, length, drop};
 ghost use Rattle.lines.specs.Bytes.{comma};
 ghost use Rattle.lines.specs.Number.{decimal, most_digits64};
 ghost use Rattle.lines.specs.Inside.Parts.{Digits, number_at, field_at, last_digits, put_front};
 
+// The most digits of a number.
 const MOST_DIGITS: usize = 18;
 
+// One digit more is looked at, to see that a number is too long. So many digits fit into 64 bits.
 const LOOKED_AT: usize = MOST_DIGITS + 1;
 
-// The smallest number of more digits: ten to the power of MOST_DIGITS.
+// The smallest number that has more digits, 10 to the power of MOST_DIGITS: it cannot be written.
 pub(crate) const LEAST_LONG: u64 = 1000000000000000000;
 
 // A number and how many bytes it takes.
@@ -18,7 +20,7 @@ pub(crate) struct Number {
     pub size: usize,
 }
 
-// The comma at the front of part and the number after it.
+// The comma at the front of part and the number after it; none where one of the two is not there.
 #[tactic(auto, using(crate::proofs::FieldLaws::by_front))]
 pub(crate) fn read_field(part: &[u8]) -> Option<Number>
     ensures { result ≡ field_at part.now }
@@ -33,7 +35,7 @@ pub(crate) fn read_field(part: &[u8]) -> Option<Number>
     })
 }
 
-// The number at the front of part. One digit more than a number has is looked at, and no further one.
+// The number at the front of part, up to the first byte that is no digit.
 #[tactic(auto, using(crate::proofs::Runs::looking))]
 fn read_number(part: &[u8]) -> Option<Number>
     ensures { result ≡ number_at part.now }
@@ -85,8 +87,8 @@ pub(crate) fn put_field(part: &mut [u8], x: u64) -> usize
     n + 1
 }
 
-// Puts the last k digits of x at the front of part, from the last one down. With `part[..k].iter_mut().rev()`, which was tried, the digits that are
-// written already have no name in the loop's invariant, and the proof did not close.
+// Puts the last k digits of x at the front of part, the last one first. The loop counts the places down, so that its invariant can name the digits
+// that are written already.
 #[tactic(auto, unfolding(crate::specs::Inside::Parts::last_digits))]
 fn put_digits(part: &mut [u8], k: usize, x: u64)
     requires { k ≤ length part.old }

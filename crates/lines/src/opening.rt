@@ -1,4 +1,4 @@
-// The openings: a fixed byte string for each edition, which the reader compares and the writer writes as it stands.
+// The openings, each edition's first line: a fixed byte string, which the reader compares and the writer writes as it stands.
 ghost use Rattle.std.specs.Prelude.{◌≡◌, false, ◌≤◌, length};
 ghost use Rattle.meter.specs.Edition.{last_edition, is_other_edition};
 ghost use Rattle.lines.specs.Bytes.{archive_word};
@@ -8,15 +8,16 @@ ghost use Rattle.lines.specs.Inside.Parts.{put_front};
 
 use meter::LAST_EDITION;
 
-/// How many bytes an opening has.
+/// How many bytes an opening has in each edition, its line feed among them.
 pub const OPENING_LENGTH: usize = 14;
 
-// Before a comma, the edition's digit and a line feed.
+// The word's bytes: a comma, the edition's digit and a line feed follow it.
 const WORD_LENGTH: usize = OPENING_LENGTH - 3;
 
+// How many editions there are.
 const EDITIONS: usize = LAST_EDITION as usize;
 
-// That of edition 1 first.
+// The openings by edition, from 1 on.
 static OPENINGS: [[u8; OPENING_LENGTH]; EDITIONS] = [
     *b"HEATARCHIVE,1\n",
     *b"HEATARCHIVE,2\n",
@@ -32,8 +33,8 @@ fn opening_of(edition: u64) -> &'static [u8; OPENING_LENGTH]
     &OPENINGS[edition as usize - 1]
 }
 
-// The edition whose opening stands at the front of bytes; 0, which is no edition, where none does, as the definition has it: so the row of the edition
-// serves both the opening and what was told. No `find`: std has no law of a range that is reversed.
+// The edition whose opening stands at the front of bytes, or 0, which is no edition, where none does: so one test of the edition refuses both a wrong
+// opening and a wrong edition that was told. It is a loop, since std has no law of `find` in a reversed range.
 #[tactic(auto, using(crate::proofs::Openings::opens_by, crate::proofs::Openings::opened_here, crate::proofs::Openings::opened_below, crate::proofs::Openings::opened_none))]
 pub(crate) fn opened_edition(bytes: &[u8]) -> u64
     ensures { result ≡ opened_up_to last_edition bytes.now }
@@ -56,7 +57,7 @@ pub(crate) fn put_opening(part: &mut [u8], edition: u64) -> usize
     OPENING_LENGTH
 }
 
-// The first field of each.
+// The first field of every opening.
 pub(crate) fn opening_word() -> &'static [u8]
     ensures { result.now ≡ archive_word }
 {

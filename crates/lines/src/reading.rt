@@ -1,4 +1,4 @@
-// The reader of one line, by its edition.
+// The reader of one line. It looks at the line at the front of the bytes alone, and copies none of them.
 ghost use Rattle.std.specs.Prelude.{◌≡◌};
 ghost use Rattle.quantity.specs.Refusals.{first_number, refusal_number};
 ghost use Rattle.lines.specs.Line.{card, sample, totals};
@@ -13,16 +13,18 @@ use crate::opening::{OPENING_LENGTH, opened_edition};
 use meter::{CARD_FIELDS, Card, SAMPLE_FIELDS, Sample, is_other_edition};
 use quantity::Refusal;
 
-/// What stands at the front of the caller's bytes, and the part of them after it; after a refused line, no bytes.
+/// What the reader hands back: the line at the front of the bytes, or the refusal; and the part of the same bytes behind the line, which is empty
+/// after a refusal.
 #[derive(Clone, Copy)]
 pub struct ReadLine<'a> {
     pub front: Result<Front, Refusal>,
     pub rest: &'a [u8],
 }
 
-/// The reader of one line, told what may come. Refused, in this order: 60 where the opening or the edition is none, 61 by the line's shape, 62 by a
-/// number, and 10 to 18 by a card's own rows.
-// `inline`: a caller that names what may come is compiled without the other cases, which saves the audit 37 instructions at a sample's line.
+/// Reads the line at the front of bytes, told which is due (docs/OPERATIONS.md, "One line: reading and writing"). Refusals, in this order: 60 if no
+/// opening stands there where one is due, or the edition that is told is none; 61 if the line has not its shape; 62 if a field is no number; 10 to
+/// 18 if a card is not allowed.
+// `inline`, so that a caller which names the line that is due is compiled without the other cases: an audit has a call for every line.
 #[inline]
 #[tactic(auto, unfolding(crate::specs::Reading::rest_of))]
 pub fn read_line<'a>(bytes: &'a [u8], may_come: MayCome) -> ReadLine<'a>
@@ -40,7 +42,7 @@ pub fn read_line<'a>(bytes: &'a [u8], may_come: MayCome) -> ReadLine<'a>
     ReadLine { front, rest }
 }
 
-// What stands at the front of bytes. Another edition is met before all else.
+// What stands at the front of bytes. The edition is looked at before all else.
 #[tactic(auto, using(crate::proofs::ReaderRows::by_byte), unfolding(crate::specs::Reading::edition_in))]
 fn front_line(bytes: &[u8], may_come: MayCome) -> Result<Front, Refusal>
     ensures { result ≡ read_of may_come bytes.now }
@@ -69,7 +71,7 @@ fn front_line(bytes: &[u8], may_come: MayCome) -> Result<Front, Refusal>
     }
 }
 
-// The edition that is found in the opening, or that was told.
+// The edition of the line: found in an opening, told of any other line.
 #[tactic(auto, unfolding(crate::specs::Reading::edition_in))]
 fn edition_in(bytes: &[u8], may_come: MayCome) -> u64
     ensures { result ≡ edition_in may_come bytes.now }
@@ -80,10 +82,10 @@ fn edition_in(bytes: &[u8], may_come: MayCome) -> u64
     }
 }
 
-// Each letter has a function of its own. With one for all, told the kind by a value, a sample's line passes through the widest line: 732 instructions in
-// place of 664.
+// Each letter has a function of its own, with room for the numbers of its own line: a sample's line, which is nearly every line of a file, does not
+// pass through room for a card's.
 
-// The card's line, by what follows its letter. The card's own rows come after those of the line's shape.
+// The card's line, by what follows its letter. The card's own conditions come after 61 and 62.
 fn front_card(after: &[u8], edition: u64) -> Result<Front, Refusal>
     ensures { result ≡ after_letter edition card after.now }
 {
@@ -111,7 +113,7 @@ fn front_sample(after: &[u8], edition: u64) -> Result<Front, Refusal>
     Ok(Front { line, size })
 }
 
-// The last line, by what follows its letter. Where its edition has fewer numbers than there are places, the others are zero.
+// Line E, by what follows its letter. The totals that its edition lacks are 0.
 fn front_end(after: &[u8], edition: u64) -> Result<Front, Refusal>
     ensures { result ≡ after_letter edition totals after.now }
 {

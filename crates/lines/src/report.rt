@@ -1,22 +1,26 @@
-// The line that the audit program prints: R and what a file ends with, or X and the first refusal with its line.
+// The line that the audit program prints: R with what an accepted file ends with, or X with the refusal and its line (docs/OPERATIONS.md, "The audit
+// and the program").
 ghost use Rattle.std.specs.Prelude.{◌≡◌, ◌≤◌, length};
 ghost use Rattle.lines.specs.Line.{text_of};
 ghost use Rattle.lines.specs.Report.{report_text, most_reported, longest_output, output_of};
 
 use crate::writing::put_text;
 
-// An output line has at most five numbers, of at most 20 digits.
+// The most numbers of a printed line, those of R.
 const MOST_REPORTED: usize = 5;
 
+// The most digits of a number of 64 bits.
 const MOST_DIGITS_64: usize = 20;
 
-// No output line is longer: a letter, five numbers, each after a comma, and the line feed.
+// The most bytes of a printed line: a letter, the numbers, each after a comma, and the line feed.
 const LONGEST: usize = 1 + MOST_REPORTED * (1 + MOST_DIGITS_64) + 1;
 
-/// What an audit found: the state that the file ends with, heat in mJ and volume in mL, or the first refusal and its line, counted from 1.
-// No Result: the line is printed of any numbers, and of a `Refusal` alone the public operation would print fewer lines than it did.
+/// What is printed, of any numbers of 64 bits: the line R or the line X.
+// The refusal is a number and no `Refusal`, since X can be made of any.
 #[derive(Clone, Copy)]
 pub enum Report {
+    /// R: what an accepted file ends with, its meter's serial number, the two counts of samples, the heat register in mJ and the volume in mL. Kept
+    /// seconds and cold register are not printed.
     EndState {
         serial: u64,
         accepted: u64,
@@ -24,22 +28,23 @@ pub enum Report {
         heat_register: u64,
         volume: u64,
     },
+    /// X: the refusal's number, and its line counted from 1, or 0 where the file was not looked into (68).
     Refused {
         number: u64,
         line: u64,
     },
 }
 
-/// The first length of the bytes are the line. It comes by value, so that no space of a caller can be too short for it.
-// Array and length stay two fields: the contract gives every byte, also those after the line, which an ArrayVec or a model of the text would not say; and
-// with a ghost field for the bound of the length, `output_of` of specs/, which is of any text, would have to prove it.
+/// A printed line with its line feed: it is the first length of the bytes, and those behind it are 0. It comes by value, with room for any such
+/// line, so that no buffer can be too short.
+// Array and length are two fields, since the contract gives every byte, also those behind the line.
 #[derive(Clone, Copy)]
 pub struct OutputLine {
     pub bytes: [u8; LONGEST],
     pub length: usize,
 }
 
-/// The report's line.
+/// Makes the line of a report, of any numbers. Nothing is refused.
 #[tactic(auto, unfolding(crate::specs::Report::report_text))]
 pub fn report_line(report: Report) -> OutputLine
     ensures answer { result ≡ output_of (report_text report) }
@@ -57,7 +62,7 @@ pub fn report_line(report: Report) -> OutputLine
     }
 }
 
-// The output line of a first field and numbers.
+// The printed line of a first field and numbers.
 #[tactic(auto, using(crate::proofs::Reports::line_within, crate::proofs::Puts::front_at), unfolding(crate::specs::Report::output_of))]
 fn output_of(first: &[u8], numbers: &[u64]) -> OutputLine
     requires { (length first.now ≤ 1) × (length numbers.now ≤ most_reported) }

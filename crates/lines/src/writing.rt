@@ -1,4 +1,4 @@
-// The writer of one line, in its edition.
+// The writer of one line. All conditions are looked at before the first byte is written, so that a refused line leaves the buffer as it was.
 ghost use Rattle.std.specs.Prelude.{◌≡◌, false, ◌||◌, map, ◌≤◌, length};
 ghost use Rattle.quantity.specs.Refusals.{first_number, first_of, refusal_number};
 ghost use Rattle.meter.specs.Edition.{is_other_edition};
@@ -15,8 +15,10 @@ use crate::opening::put_opening;
 use meter::is_other_edition;
 use quantity::{Refusal, first_refusal};
 
-/// Puts a line in its edition into buf from the place at on, and answers the next place. Refused, in this order: 67 for a place beyond the buffer, 60 for
-/// an edition that is none, 10 to 18 by a card's own rows, 62 by a number that the line cannot have, and 66 where it has no room; buf is then as it was.
+/// Puts a line with its edition into buf from the position at on, counted from 0, and answers the position behind it; all other bytes stay.
+/// Refusals, in this order, which leave buf as it was: 67 if at is above the length of buf; 60 if the edition is none; 10 to 18 if a card is not
+/// allowed; 62 if a number has over 18 digits, or a total that the edition lacks is not 0; 66 if there are fewer bytes from at on than the line has
+/// (docs/OPERATIONS.md, "One line: reading and writing").
 #[tactic(auto, using(crate::proofs::WriterRows::unrefused), unfolding(crate::specs::Writing::written_of, crate::specs::Writing::buffer_after))]
 pub fn write_line(buf: &mut [u8], at: usize, what: EditionLine) -> Result<usize, Refusal>
     ensures answer { result ≡ written_of (length buf.old) at what }
@@ -28,7 +30,7 @@ pub fn write_line(buf: &mut [u8], at: usize, what: EditionLine) -> Result<usize,
     Ok(at + put_line(&mut buf[at..], what))
 }
 
-// The writer's rows, for a buffer of size bytes.
+// The writer's conditions in order, for a buffer of size bytes. 67 comes before the subtraction, which so cannot pass below 0.
 #[tactic(auto, using(crate::proofs::WriterRows::stages))]
 fn write_refusal(size: usize, at: usize, what: EditionLine) -> Result<(), Refusal>
     ensures { result ≡ first_of (write_rows size at what) }
@@ -41,7 +43,7 @@ fn write_refusal(size: usize, at: usize, what: EditionLine) -> Result<(), Refusa
     text_refusal(size - at, what)
 }
 
-// A card's own rows.
+// A card's own conditions, 10 to 18. Another line has none on what it says.
 #[tactic(auto, unfolding(crate::specs::Line::content_rows, quantity::specs::Refusals::first_of))]
 fn content_refusal(line: Line) -> Result<(), Refusal>
     ensures { result ≡ first_of (content_rows line) }
@@ -52,7 +54,7 @@ fn content_refusal(line: Line) -> Result<(), Refusal>
     }
 }
 
-// The rows of a line's text, where room bytes follow the place.
+// The conditions on a line's text, 62 and 66, where room bytes are left from the position on.
 fn text_refusal(room: usize, what: EditionLine) -> Result<(), Refusal>
     ensures { result ≡ first_of (text_rows room what) }
 {
@@ -64,7 +66,7 @@ fn text_refusal(room: usize, what: EditionLine) -> Result<(), Refusal>
     ])
 }
 
-// How many bytes the first field, the numbers and the line's end take.
+// How many bytes the first field, the numbers and the line feed take.
 #[tactic(auto, using(crate::proofs::Listing::text_size, crate::proofs::Listing::fields_small))]
 fn text_length(first: &[u8], numbers: &[u64]) -> usize
     requires { length numbers.now ≤ most_numbers }
@@ -73,7 +75,7 @@ fn text_length(first: &[u8], numbers: &[u64]) -> usize
     first.len() + fields_length(numbers) + 1
 }
 
-// Whether a number of the line has over 18 digits, or one that its edition lacks is other than zero.
+// Whether a number on the line has over 18 digits, or one that its edition lacks is not 0.
 fn has_refused_number(listed: &Listed) -> bool
     ensures { result ≡ (some_long listed.now.shown || some_nonzero listed.now.lacked) }
 {
@@ -92,8 +94,7 @@ fn put_line(part: &mut [u8], what: EditionLine) -> usize
     put_text(part, first_field(what.line), listed.shown())
 }
 
-// Puts the first field, the numbers and the line's end. The two are a line's parts only here and where its length is taken: a struct of both would be
-// taken apart at once.
+// Puts the first field, the numbers and the line feed at the front of part, and answers how many bytes they take.
 #[tactic(auto, using(crate::proofs::Listing::fields_room, crate::proofs::Listing::end_room))]
 pub(crate) fn put_text(part: &mut [u8], first: &[u8], numbers: &[u64]) -> usize
     requires { length (text_of first.now numbers.now) ≤ length part.old }
@@ -106,7 +107,7 @@ pub(crate) fn put_text(part: &mut [u8], first: &[u8], numbers: &[u64]) -> usize
     end + 1
 }
 
-// Puts the numbers, each after a comma. The part that starts at a field's place is lent on to its writer, a form that document 01 names.
+// Puts the numbers, each after a comma. Each is put at the front of the part that is left, so that its writer touches nothing before that.
 #[tactic(auto, using(crate::proofs::Listing::begun, crate::proofs::Listing::next_place))]
 fn put_fields(part: &mut [u8], numbers: &[u64]) -> usize
     requires { length (after_commas (map decimal numbers.now)) ≤ length part.old }
