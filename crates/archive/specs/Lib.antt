@@ -1,4 +1,6 @@
--- What the contracts of this crate, and of those above it, cite, and the statements of its theorems.
+-- The rules of a whole file, in an order in which they can be read: how bytes are read as a file, as a whole, then sample by sample and by its head;
+-- what the audit answers; which bytes are an archive; which refusal stands at which line; and what is printed. Theorems has the statements that are
+-- proved of them. Contracts of this crate and of those above it cite these files.
 pub mod File
 pub mod Places
 pub mod Samples

@@ -1,7 +1,7 @@
-// What is proved of a file's readings.
+// What is proved of a file's readings. The function does nothing: its contract is the statement.
 ghost use Rattle.archive.specs.Theorems.{OneReading};
 
-/// Two readings of one file are the same: its edition, its card, its samples and the meter that they lead to.
+/// A file can be read as an archive in one way only: with one edition, one card, one list of samples and one meter in the end.
 pub fn one_reading()
     ensures { OneReading }
 {}

@@ -1,4 +1,5 @@
-// The audit of a whole archive (document 01, "Archive text" and the row "Line and audit").
+// The audit of a whole archive (docs/FORMAT.md, "Auditing a file"), the line that a program prints of it, and the head and samples of a file one by
+// one.
 #![tactic(auto)]
 
 mod auditing;

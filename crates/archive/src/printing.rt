@@ -1,4 +1,4 @@
-// The audit's output line, for a program with a limit on its input.
+// The line that a program prints of a file, for a program with a limit on its input.
 ghost use Rattle.std.specs.Prelude.{◌≡◌, ◌≤◌};
 ghost use Rattle.lines.specs.Report.{longest_output};
 ghost use Rattle.archive.specs.Report.{of_audited, report_of, line_of, ArchiveExactly, OverLimitExactly};
@@ -8,11 +8,11 @@ use lines::{OutputLine, RefusedAt, Report};
 use meter::Meter;
 use quantity::Refusal;
 
-/// The audit program's limit, in bytes.
+/// The limit of the program `audit`, in bytes: it does not look into a longer input.
 pub const AUDIT_LIMIT: usize = 65536;
 
-/// The output line of the audit of a whole input: R with what an archive ends with, or X with the refusal and its line; 68 as line 0, before all else,
-/// exactly when the input has more bytes than limit.
+/// The line to print of a whole input (docs/OPERATIONS.md, "The audit and the program"). If the input has more bytes than limit it is X with 68 and
+/// line 0. Otherwise it is R with what the audit's meter holds, or X with the audit's refusal and its line.
 pub fn report(input: &[u8], limit: usize) -> OutputLine
     ensures answer { result ≡ line_of (report_of limit input.now) }
     ensures within { result.length ≤ longest_output }
@@ -22,6 +22,7 @@ pub fn report(input: &[u8], limit: usize) -> OutputLine
     lines::report_line(found(input, limit))
 }
 
+// What is reported of an input. Its length is looked at before a byte of it.
 #[tactic(auto, unfolding(crate::specs::Report::report_of))]
 fn found(input: &[u8], limit: usize) -> Report
     ensures { result ≡ report_of limit input.now }
@@ -35,7 +36,7 @@ fn found(input: &[u8], limit: usize) -> Report
     of_audited(audit(input))
 }
 
-// What the report shows of an answer. No `From`: it would stand with its types, in `lines`, and the audit's answer is this crate's.
+// What is reported of the audit's answer. A function and no `From`, since the answer's meaning is this crate's and its types are of others.
 #[tactic(auto, unfolding(crate::specs::Report::of_audited))]
 fn of_audited(answer: Result<Meter, RefusedAt>) -> Report
     ensures { result ≡ of_audited answer }
