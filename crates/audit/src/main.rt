@@ -1,4 +1,4 @@
-// The program `audit`: reads an archive on standard input and prints the audit's line.
+// The program `audit`: reads a file on standard input and prints one line about it (docs/OPERATIONS.md, "The audit and the program").
 #![tactic(auto)]
 
 mod input;
@@ -18,7 +18,8 @@ fn main(rt: HostRuntime) -> io::Result<()> {
     audit(&mut rt.reader(), &mut io::writer(&rt))
 }
 
-// Writes the line of the whole input. One byte more than the limit is read, to tell that an input is longer. After a failed read nothing is printed.
+// Writes the line of the whole input. Up to one byte more than the limit is read, which is enough to tell that an input is longer. After a failed
+// read nothing is printed. Over any reader and writer, so that its contract can say what is read and written: of standard input and output none can.
 #[tactic(auto, using(crate::proofs::Whole::audited))]
 fn audit<R: Read, W: Write>(input: &mut R, out: &mut W) -> io::Result<()>
     ensures { OnOk result (IfSome (R.remaining input.old) (λ bytes. Appends (W.contents out.old) (W.contents out.new)

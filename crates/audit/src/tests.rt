@@ -1,5 +1,5 @@
-// The program over a reader and a writer in memory: that it does end without an error, which its contract supposes, and what stands there after a read
-// or a write that fails.
+// The program over a reader and a writer in memory: that it does end without an error, which its contract supposes, and what stands there after a
+// read or a write that fails.
 use crate::audit;
 use std::io;
 use std::io::{ErrorKind, Read, Write};

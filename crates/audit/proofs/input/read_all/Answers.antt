@@ -6,7 +6,7 @@ use Rattle.std.specs.Io.KnownBytes.{Consumes}
 use borrow.Rule.Slice.PartMut.{put_mid, post_of, take_put}
 use Rattle.audit.proofs.input.read_all.Goals as goal
 
--- the first a + n bytes, with ys put in from the place a on
+-- the first a + n bytes, with ys put in from the position a on
 front_put : (a k n : ℕ) (xs ys : List ℕ) → a ≤ length xs → n ≤ length ys → take (a + n) (put_mid a k xs ys) ≡ take a xs ++ take n ys
 front_put a k n xs ys within fits =
     let after = post_of a k xs in
