@@ -15,7 +15,7 @@ use Rattle.lines.specs.declared.line.Line.TheVariants as L
 use Rattle.lines.specs.declared.line.EditionLine.{EditionLine}
 use Rattle.lines.specs.declared.line.Totals.{Totals}
 
--- The four kinds of line: the opening, which docs/FORMAT.md calls the heading; the card's line C; a sample's line S; and line E, with the totals.
+-- The four kinds of line: the opening; the card's line C; a sample's line S; and line E, with the totals.
 pub data LineKind : Type 0 where
   opening : LineKind
   card : LineKind

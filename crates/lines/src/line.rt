@@ -87,7 +87,7 @@ impl From<Meter> for Totals {
     }
 }
 
-/// A line, by its kind: the opening (the heading, in docs/FORMAT.md), the card's line C, a sample's line S, or line E with the totals. Any numbers
+/// A line, by its kind: the opening, the card's line C, a sample's line S, or line E with the totals. Any numbers
 /// can stand here: whether they may be read or written is for reader and writer to say.
 #[derive(Clone, Copy, Debug, PartialEq, Eq)]
 pub enum Line {

@@ -6,10 +6,10 @@ use mathlib.Core.Bool.{Bool, true, false}
 use Prim.Native.Nat.{ℕ, ◌+◌, ◌≤◌, ◌<◌}
 use native.Mathlib.Nat.{add-zero}
 use native.Mathlib.Omega.{arith}
-use lib.Dec.{ltb, eqb}
+use lib.Dec.{leb, eqb}
 use lib.ListN.{length, length-replicate}
 use lib.Seq.{get_or-set_same}
-use borrow.Author.Tests.{lt-ltb, ltb-true, eqb-false}
+use borrow.Author.Tests.{le-leb, leb-true, eqb-false}
 use Rattle.quantity.specs.Fractions.{floored}
 use Rattle.quantity.specs.Refusals.{number_of, refusal_number, first_of}
 use Rattle.std.specs.Prelude.{Result, Ok, Err}
@@ -129,7 +129,7 @@ cells_within_limit m z qs cells calls k = omega (arith, cell_at_most cells k, (s
 
 -- ---- 73 from the index alone
 
-not_refused : (cells : List ℕ) (i : ℕ) → ltb 95 i ≡ false → ((k : ℕ) → cell_at cells k ≤ largest_register) → first_of (profile_rows cells i) ≡ Ok tt
+not_refused : (cells : List ℕ) (i : ℕ) → leb quarters i ≡ false → ((k : ℕ) → cell_at cells k ≤ largest_register) → first_of (profile_rows cells i) ≡ Ok tt
 unfolding profile_rows
 not_refused cells i e small =
     no_refusal (profile_rows cells i) (simp (e, all_at_most largest_register cells small) (refl, tt))
@@ -140,12 +140,12 @@ other_number n h e = eqb-false n 73 h e
 pub index_alone : IndexAlone
 unfolding in_quarter_of profile_rows first_of refusal_number number_of
 index_alone m z qs cells calls s i = (
-  by (ltb 95 i) refl,
-  λ h. simp (lt-ltb 95 i h),
+  by (leb quarters i) refl,
+  λ h. simp (le-leb quarters i h),
 )
   where
-    by : (b : Bool) → ltb 95 i ≡ b → refusal_number (in_quarter_of z cells s i).stepped.outcome ≡ 73 → 95 < i
-    by true e f = ltb-true 95 i e
+    by : (b : Bool) → leb quarters i ≡ b → refusal_number (in_quarter_of z cells s i).stepped.outcome ≡ 73 → quarters ≤ i
+    by true e f = leb-true quarters i e
     by false e f =
         let o = not_refused cells i e (cells_within_limit m z qs cells calls) in
         absurd (other_number _ (step_not_73 z s) (ap (λ (x : Result Unit Refusal). refusal_number (by_profile z cells s i x).stepped.outcome) (sym o) ∙ f))

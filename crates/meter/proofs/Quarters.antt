@@ -6,10 +6,10 @@ use mathlib.Core.Bool.{Bool, true, false, cond}
 use Prim.Native.Nat.{ℕ, ◌+◌, ◌*◌, ◌-◌, ◌≤◌}
 use native.Mathlib.Nat.{add-zero}
 use native.Mathlib.Omega.{arith}
-use lib.Dec.{ltb}
+use lib.Dec.{ltb, leb}
 use lib.ListN.{length, length-set}
 use lib.Seq.{get_or-set_other}
-use borrow.Author.Tests.{ltb-false}
+use borrow.Author.Tests.{leb-false}
 use Rattle.quantity.specs.Fractions.{floored}
 use Rattle.quantity.specs.Refusals.{refusal_number, first_of, first_number, NoneApplies}
 use Rattle.std.specs.Prelude.{Result, Ok, Err}
@@ -72,9 +72,9 @@ cells_raised c cells s i (Err n) = sym (raised_by_none cells i)
 pub admitted : (cells : List ℕ) (i : ℕ) → first_of (profile_rows cells i) ≡ Ok tt → Admitted cells i
 unfolding profile_rows
 admitted cells i e =
-    let p = neither (ltb 95 i) (list_any (λ (cell : ℕ). ltb largest_register cell) cells) (none_applies (profile_rows cells i) e).0 in
+    let p = neither (leb quarters i) (list_any (λ (cell : ℕ). ltb largest_register cell) cells) (none_applies (profile_rows cells i) e).0 in
     record {
-      within = omega (arith, ltb-false 95 i p.0);
+      within = leb-false quarters i p.0;
       small = none_above largest_register cells p.1;
     }
 

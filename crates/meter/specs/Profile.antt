@@ -1,6 +1,6 @@
 -- The day profile (docs/OPERATIONS.md, "The day profile"): when in the day a house drew its heat. A day has 96 quarters of an hour, and a cell of
 -- mJ for each; a sample comes with the index of the quarter that it belongs to.
-use Rattle.std.specs.Prelude.{ℕ, ◌+◌, List, [], ◌∷◌, cond, ◌||◌, ltb, get_or, set, replicate, Result, Ok, Err}
+use Rattle.std.specs.Prelude.{ℕ, ◌+◌, List, [], ◌∷◌, cond, ◌||◌, ltb, leb, get_or, set, replicate, Result, Ok, Err}
 use Rattle.std.specs.List.{list_any}
 use Rattle.quantity.specs.Fractions.{floored}
 use Rattle.quantity.specs.Refusals.{row, first_of}
@@ -25,9 +25,9 @@ quarters = 96
 abbrev pub zero_cells : List ℕ
 zero_cells = replicate quarters 0
 
--- A call is refused with 73 if its index is above 95, where the first quarter has 0, or if any of its cells is above the limit of a register.
+-- A call is refused with 73 if no quarter has its index, the first one having 0 and the last one 95, or if any of its cells is above the limit of a register.
 unfoldable pub profile_rows : List ℕ → ℕ → List Row
-profile_rows cells index = row R.Profile (ltb 95 index || list_any (λ cell. ltb largest_register cell) cells) ∷ []
+profile_rows cells index = row R.Profile (leb quarters index || list_any (λ cell. ltb largest_register cell) cells) ∷ []
 
 -- What stands in the cell of an index, and 0 where there is no such cell.
 abbrev pub cell_at : List ℕ → ℕ → ℕ

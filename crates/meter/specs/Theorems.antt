@@ -15,7 +15,7 @@ use Rattle.meter.specs.State.{fresh_of, zeros, largest_register, largest_volume,
 use Rattle.meter.specs.Sample.{volume_of, supply_of, return_of, ts, tr, sample_heat}
 use Rattle.meter.specs.Register.{register_of, own_register}
 use Rattle.meter.specs.Step.{kept_of, step_of}
-use Rattle.meter.specs.Profile.{zero_cells, profile_rows, cell_at, in_quarter_of}
+use Rattle.meter.specs.Profile.{quarters, zero_cells, profile_rows, cell_at, in_quarter_of}
 use Rattle.meter.specs.Day.{InQuarter, DayCalls, day_of, day_asked}
 use Rattle.meter.specs.Sum.{Mark, is_own, nothing, sum_of, allowance_of, WithinBounds}
 use Rattle.meter.specs.Calls.{Calls, is_accepted}
@@ -239,7 +239,7 @@ CellsWithinLimit = (m z : Meter) (qs : List InQuarter) (cells : List ℕ) → Da
 abbrev pub IndexAlone : Type 0
 IndexAlone =
     (m z : Meter) (qs : List InQuarter) (cells : List ℕ) → DayCalls m zero_cells qs z cells → (s : Sample) (i : ℕ) →
-    (refusal_number (in_quarter_of z cells s i).stepped.outcome ≡ 73) ↔ (95 < i)
+    (refusal_number (in_quarter_of z cells s i).stepped.outcome ≡ 73) ↔ (quarters ≤ i)
 
 -- The calls of a day can be made of any samples with their index, in any order, from any meter and any cells on.
 abbrev pub DayExists : Type 0

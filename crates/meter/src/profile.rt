@@ -101,7 +101,9 @@ impl Quarter {
 fn profile_refusal(cells: &[u64], index: u64) -> Result<(), Refusal>
     ensures { result ≡ first_of (profile_rows cells.now index) }
 {
-    first_refusal(&[Refusal::Profile.when(95 < index || has_above(cells, LARGEST_REGISTER))])
+    first_refusal(&[Refusal::Profile.when(
+        QUARTERS as u64 <= index || has_above(cells, LARGEST_REGISTER),
+    )])
 }
 
 // Whether a cell is above a limit.

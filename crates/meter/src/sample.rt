@@ -7,6 +7,7 @@ ghost use Rattle.meter.specs.Step.{count_rows};
 use crate::card::Card;
 use crate::state::MOST_SECONDS;
 use quantity::{Refusal, first_refusal, is_outside};
+use water::MOST_MILLILITRES;
 
 /// How many numbers a sample has.
 pub const SAMPLE_FIELDS: usize = 4;
@@ -59,7 +60,7 @@ impl Sample {
         let volume = self.pulses.saturating_mul(card.ml_per_pulse);
         first_refusal(&[
             Refusal::Seconds.when(is_outside(self.seconds, 1, MOST_SECONDS)),
-            Refusal::Volume.when(1000000 < self.pulses || 1000000 < volume),
+            Refusal::Volume.when(1000000 < self.pulses || MOST_MILLILITRES < volume),
         ])
     }
 }

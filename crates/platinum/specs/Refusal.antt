@@ -19,13 +19,13 @@ use Rattle.platinum.specs.declared.reading.Unmeasured.TheVariants.{NoSensor, Out
 
 -- The refusal, by whose reading it is and by why it has no temperature.
 unfoldable pub unmeasured_refusal : Role → Unmeasured → Refusal
-unmeasured_refusal p NoSensor = SensorKind
-unmeasured_refusal p (Outside e) = refusal_at_end p e
+unmeasured_refusal role NoSensor = SensorKind
+unmeasured_refusal role (Outside e) = refusal_at_end role e
 
 -- What an answer refuses, by whose reading it is: nothing if it is a temperature.
 unfoldable pub refusal_of : Role → Result Temperature Unmeasured → Result Unit Refusal
-refusal_of p (Ok t) = Ok tt
-refusal_of p (Err u) = Err (unmeasured_refusal p u)
+refusal_of role (Ok t) = Ok tt
+refusal_of role (Err u) = Err (unmeasured_refusal role u)
 
 -- An answer without a temperature, that is counted with this end of the range: the one that was missed. Without a sensor no end was missed, and it
 -- is counted with the low one; wherever the sensor is looked at, 12 has come before.
@@ -40,9 +40,9 @@ has_none High (Err NoSensor) = false
 
 -- The rows of one reading, by whose it is: too low, then too high.
 abbrev pub end_rows : Role → Result Temperature Unmeasured → List Row
-end_rows p m =
-    row (refusal_at_end p Low) (has_none Low m)
-    ∷ row (refusal_at_end p High) (has_none High m)
+end_rows role m =
+    row (refusal_at_end role Low) (has_none Low m)
+    ∷ row (refusal_at_end role High) (has_none High m)
     ∷ []
 
 -- The rows of the temperature operation, whose reading stands by itself: 12, 32, 70. What its answer refuses, by `refusal_of Alone`, is the first

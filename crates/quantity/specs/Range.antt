@@ -22,4 +22,4 @@ refusal_at_end Return High = ReturnAboveRange
 
 -- Its number. From the number alone it can be told which end it was (`TellsEnd` of specs/Theorems.antt).
 abbrev pub end_number : Role → End → ℕ
-end_number p e = number_of (refusal_at_end p e)
+end_number role e = number_of (refusal_at_end role e)

@@ -69,7 +69,7 @@ pub enum Refusal {
     TestFlow = 54,
     /// 55: the conventional true value is zero, it or the indicated value is above 999999999999, or the limit to compare with has denominator zero.
     Values = 55,
-    /// 60: the bytes do not begin with the heading of edition 1, 2 or 3, a line is asked for in another edition than these, or the file to be moved
+    /// 60: the bytes do not begin with the opening of edition 1, 2 or 3, a line is asked for in another edition than these, or the file to be moved
     /// is not of the edition that it is moved from.
     Edition = 60,
     /// 61: where a line is due the file ends, or the line has no line feed, another letter, or another count of fields than its edition has.

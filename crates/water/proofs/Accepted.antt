@@ -21,7 +21,7 @@ use Rattle.quantity.proofs.Rows.{answered, none_applies, no_refusal, none_of_par
 use Rattle.water.specs.Table.{Table}
 use Rattle.water.specs.Pair.{at_place, pair_rows}
 use Rattle.water.specs.Coefficient.{order_rows, exact_coefficient, coefficient_rows, coefficient_of}
-use Rattle.water.specs.Heat.{pair_heat, heat_rows, heat_of}
+use Rattle.water.specs.Heat.{most_millilitres, pair_heat, heat_rows, heat_of}
 use Rattle.water.specs.Theorems.{IsFloor, CoefficientExactly, HeatExactly}
 use Rattle.water.proofs.ExactHeats.{heat_is_fraction, of_either_order}
 use Rattle.water.proofs.Passed.{apart}
@@ -30,7 +30,7 @@ use Rattle.water.proofs.Properties.{TableBounds, volume_above_zero}
 -- for callers that have tried the rows before
 pub heat_accepted :
     (w : Table) (u : ℕ) (ts tr : Temperature) (place : ℕ) →
-    outside place 1 2 ≡ false → ts.0 ≤ 100 * w.last → tr.0 ≤ 100 * w.last → u ≤ 1000000 →
+    outside place 1 2 ≡ false → ts.0 ≤ 100 * w.last → tr.0 ≤ 100 * w.last → u ≤ most_millilitres →
     heat_of w u ts tr place ≡ Ok (floored (pair_heat w u ts tr place))
 unfolding heat_of
 heat_accepted w u ts tr place p q r s =
@@ -40,7 +40,7 @@ heat_accepted w u ts tr place p q r s =
         p,
         (
           le-ltb (w.last * 100) ts.0 (omega arith),
-          (le-ltb (w.last * 100) tr.0 (omega arith), (le-ltb 1000000 u s, tt)),
+          (le-ltb (w.last * 100) tr.0 (omega arith), (le-ltb most_millilitres u s, tt)),
         ),
       ),
     )

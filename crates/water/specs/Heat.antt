@@ -30,10 +30,14 @@ pair_heat w u ts tr place =
     let measured = at_place place ts tr in
     cond (is_colder ts tr) (exact_heat w u tr ts measured) (exact_heat w u ts tr measured)
 
--- All rows of the operation: those of the pair (11, 70, 71), then a volume above 1000000 mL (31). Both orders of supply and return are answered,
+-- The largest volume whose heat is given, in mL: a cubic metre. A sample has no more.
+abbrev pub most_millilitres : ℕ
+most_millilitres = 1000000
+
+-- All rows of the operation: those of the pair (11, 70, 71), then a volume above the largest (31). Both orders of supply and return are answered,
 -- and equally warm ones have 0 mJ: so neither 36 nor 37 is given.
 abbrev pub heat_rows : Table → ℕ → Temperature → Temperature → ℕ → List Row
-heat_rows w u ts tr place = pair_rows w ts tr place ++ (row Volume (ltb 1000000 u) ∷ [])
+heat_rows w u ts tr place = pair_rows w ts tr place ++ (row Volume (ltb most_millilitres u) ∷ [])
 
 -- What the operation answers: the refusal of the first row that applies, or else the exact heat or cold rounded down.
 unfoldable pub heat_of : Table → ℕ → Temperature → Temperature → ℕ → Result ℕ Refusal

@@ -11,4 +11,4 @@ mod volume_heat;
 
 pub use heat_coefficient::coefficient;
 pub use tables::{Entry, table_entry};
-pub use volume_heat::heat;
+pub use volume_heat::{MOST_MILLILITRES, heat};

@@ -3,12 +3,15 @@ ghost use Rattle.std.specs.Prelude.{◌≡◌, ◌≤◌};
 ghost use Rattle.water.specs.Table.{water};
 ghost use Rattle.quantity.specs.Fractions.{floored};
 ghost use Rattle.quantity.specs.Refusals.{refusal_number, first_number};
-ghost use Rattle.water.specs.Heat.{pair_heat, heat_rows, heat_of};
+ghost use Rattle.water.specs.Heat.{most_millilitres, pair_heat, heat_rows, heat_of};
 ghost use Rattle.water.specs.Theorems.{HeatExactly};
 
 use crate::interpolation::enthalpy_rise;
 use crate::pair::Pair;
 use quantity::{Refusal, Temperature, first_refusal};
+
+/// The largest volume whose heat is given, in mL: a cubic metre. No sample has more (31).
+pub const MOST_MILLILITRES: u64 = 1000000;
 
 /// The heat in mJ, rounded down, of u mL of water between a supply and a return temperature, both in hundredths of °C (OIML R 75-1), or its cold
 /// where the supply is the colder, with the volume measured at a place, 1 supply or 2 return. It refuses another place (11), a supply above
@@ -27,7 +30,7 @@ fn heat_by_rows(u: u64, ts: Temperature, tr: Temperature, place: u64) -> Result<
     ensures { result ≡ heat_of water u ts tr place }
 {
     let pair = Pair::new(ts, tr, place)?;
-    first_refusal(&[Refusal::Volume.when(1000000 < u)])?;
+    first_refusal(&[Refusal::Volume.when(MOST_MILLILITRES < u)])?;
     Ok(pair.floored_heat(u))
 }
 
@@ -35,7 +38,7 @@ impl Pair {
     // The supply's enthalpy less the return's, or exchanged where the supply is below the return; the volume at the place either way.
     #[tactic(auto, unfolding(crate::specs::Heat::exact_heat, crate::specs::Heat::pair_heat))]
     fn floored_heat(self, u: u64) -> u64
-        requires { u ≤ 1000000 }
+        requires { u ≤ most_millilitres }
         ensures { result ≡ floored (pair_heat water u self.supply_water.temperature self.return_water.temperature self.place) }
     {
         let rise = if self.supply_water.temperature < self.return_water.temperature {

@@ -6,6 +6,7 @@ use Rattle.quantity.specs.Units.{last_degree, largest_kelvins}
 use Rattle.meter.specs.Edition.{is_other_edition}
 use Rattle.meter.specs.State.{largest_register, largest_volume, largest_count, most_seconds}
 use Rattle.quantity.specs.Fractions.{floored}
+use Rattle.water.specs.Heat.{most_millilitres}
 use Rattle.meter.specs.Sample.{volume_of, sample_heat}
 use Rattle.meter.specs.Register.{register_of, own_register}
 use Rattle.meter.specs.Theorems.{LackedZero}
@@ -40,7 +41,7 @@ pub record AcceptedState (m : Meter) : Type 0 where
 pub record AcceptedCounts (c : Card) (s : Sample) : Type 0 where
   pub seconds : (1 ≤ s.seconds) × (s.seconds ≤ most_seconds)
   pub pulses : s.pulses ≤ 1000000
-  pub volume : volume_of c s ≤ 1000000
+  pub volume : volume_of c s ≤ most_millilitres
 
 -- Of a sample that 41 does not refuse: there is room for it in its own register and in the volume.
 pub record AcceptedLimits (m : Meter) (s : Sample) : Type 0 where
