@@ -4,6 +4,7 @@
 
 mod auditing;
 mod head;
+/// What is proved of a file's readings.
 pub mod laws;
 mod places;
 mod printing;

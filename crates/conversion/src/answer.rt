@@ -10,6 +10,7 @@ pub enum Unconverted {
     NoRoom,
 }
 
+/// A file's refusal and its line, as the converters answer it.
 impl From<RefusedAt> for Unconverted {
     ghost use Rattle.std.specs.Prelude.{◌≡◌};
     ghost use Rattle.conversion.specs.declared.answer.Unconverted.TheVariants.{At};

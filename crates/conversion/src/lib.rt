@@ -5,6 +5,7 @@ mod answer;
 mod converting;
 mod direction;
 mod examining;
+/// What is proved of the two converters together.
 pub mod laws;
 mod putting;
 mod running;

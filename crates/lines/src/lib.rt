@@ -4,6 +4,7 @@
 
 mod fault;
 mod fields;
+/// What is proved of writer and reader together, and of a line's bytes.
 pub mod laws;
 mod line;
 mod listed;

@@ -9,20 +9,21 @@ pub const TOTALS_FIELDS: usize = 6;
 /// 0 where it was read, and has to be 0 to be written.
 #[derive(Clone, Copy, Debug, PartialEq, Eq)]
 pub struct Totals {
-    /// How many samples were accepted, and how many refused.
+    /// how many samples were accepted
     pub accepted: u64,
+    /// how many samples were refused
     pub refused: u64,
-    /// In mJ.
+    /// the heat of the accepted samples whose supply was not colder than their return, in mJ
     pub heat_register: u64,
-    /// In mL.
+    /// the water of all accepted samples, in mL
     pub volume: u64,
-    /// The seconds of accepted samples with a flow above qs; from edition 2 on.
+    /// the seconds of the accepted samples whose flow was above qs, in s; from edition 2 on
     pub kept_seconds: u64,
-    /// In mJ; in edition 3.
+    /// the cold of the accepted samples whose supply was colder than their return, in mJ; in edition 3
     pub cold_register: u64,
 }
 
-// The totals of their numbers, in the order of line E.
+/// The totals of these numbers, in the order of line E, whatever they are.
 impl From<[u64; TOTALS_FIELDS]> for Totals {
     ghost use Rattle.std.specs.Prelude.{◌≡◌};
     ghost use Rattle.lines.specs.Line.{totals_from};
@@ -49,7 +50,7 @@ impl From<[u64; TOTALS_FIELDS]> for Totals {
     }
 }
 
-// And their numbers, in that order.
+/// The numbers of the totals, in the order of line E.
 impl From<Totals> for [u64; TOTALS_FIELDS] {
     ghost use Rattle.std.specs.Prelude.{◌≡◌};
     ghost use Rattle.lines.specs.Line.{totals_numbers};
@@ -68,7 +69,7 @@ impl From<Totals> for [u64; TOTALS_FIELDS] {
     }
 }
 
-// The totals that a meter has come to.
+/// The totals that a meter has come to.
 impl From<Meter> for Totals {
     ghost use Rattle.std.specs.Prelude.{◌≡◌};
     ghost use Rattle.lines.specs.Line.{totals_of};
@@ -91,9 +92,13 @@ impl From<Meter> for Totals {
 /// can stand here: whether they may be read or written is for reader and writer to say.
 #[derive(Clone, Copy, Debug, PartialEq, Eq)]
 pub enum Line {
+    /// the first line of a file, which names its edition
     Opening,
+    /// line C
     Card(Card),
+    /// line S
     Sample(Sample),
+    /// line E
     End(Totals),
 }
 
@@ -101,7 +106,9 @@ pub enum Line {
 /// opening.
 #[derive(Clone, Copy, Debug, PartialEq, Eq)]
 pub struct EditionLine {
+    /// the edition; another number than 1, 2 and 3 is not written (60)
     pub edition: u64,
+    /// the line, of which the edition decides which totals stand on it
     pub line: Line,
 }
 
@@ -109,21 +116,28 @@ pub struct EditionLine {
 /// which the letter tells.
 #[derive(Clone, Copy, Debug, PartialEq, Eq)]
 pub enum MayCome {
+    /// the opening of any edition
     Opening,
+    /// line C, in the edition of this number; another number than 1, 2 and 3 is refused (60)
     Card(u64),
+    /// line S or line E, in the edition of this number; another number than 1, 2 and 3 is refused (60)
     SampleOrEnd(u64),
 }
 
 /// What stands at the front of some bytes: a line with its edition, and how many bytes it takes, its line feed among them.
 #[derive(Clone, Copy, Debug, PartialEq, Eq)]
 pub struct Front {
+    /// the line, with its edition
     pub line: EditionLine,
+    /// how many bytes it takes
     pub size: usize,
 }
 
 /// The refusal of a file, and the line at which it is refused, counted from 1.
 #[derive(Clone, Copy, Debug, PartialEq, Eq)]
 pub struct RefusedAt {
+    /// why the file is refused
     pub refusal: Refusal,
+    /// the number of the line, 1 for the opening
     pub line: u64,
 }

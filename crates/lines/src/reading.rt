@@ -17,7 +17,9 @@ use quantity::Refusal;
 /// after a refusal.
 #[derive(Clone, Copy)]
 pub struct ReadLine<'a> {
+    /// the line and how many bytes it takes, or why it is refused: 60, 61, 62 or 10 to 18
     pub front: Result<Front, Refusal>,
+    /// the bytes behind the line, a part of those that were given
     pub rest: &'a [u8],
 }
 

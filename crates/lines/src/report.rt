@@ -19,32 +19,40 @@ const LONGEST: usize = 1 + MOST_REPORTED * (1 + MOST_DIGITS_64) + 1;
 // The refusal is a number and no `Refusal`, since X can be made of any.
 #[derive(Clone, Copy)]
 pub enum Report {
-    /// R: what an accepted file ends with, its meter's serial number, the two counts of samples, the heat register in mJ and the volume in mL. Kept
-    /// seconds and cold register are not printed.
+    /// R: what an accepted file ends with. Kept seconds and cold register are not printed.
     EndState {
+        /// the meter's serial number
         serial: u64,
+        /// how many samples were accepted
         accepted: u64,
+        /// how many samples were refused
         refused: u64,
+        /// in mJ
         heat_register: u64,
+        /// in mL
         volume: u64,
     },
-    /// X: the refusal's number, and its line counted from 1, or 0 where the file was not looked into (68).
+    /// X: why a file is refused, and at which line, counted from 1, or at 0 where the file was not looked into (68).
     Refused {
+        /// the refusal's number
         number: u64,
+        /// the line's number, or 0
         line: u64,
     },
 }
 
 /// A printed line with its line feed: it is the first length of the bytes, and those behind it are 0. It comes by value, with room for any such
-/// line, so that no buffer can be too short.
+/// line, so that no buffer can be too short (docs/OPERATIONS.md, "The audit and the program").
 // Array and length are two fields, since the contract gives every byte, also those behind the line.
 #[derive(Clone, Copy)]
 pub struct OutputLine {
+    /// the line, and zeros behind it
     pub bytes: [u8; LONGEST],
+    /// how many bytes the line has, at most 107
     pub length: usize,
 }
 
-/// Makes the line of a report, of any numbers. Nothing is refused.
+/// Makes the line of a report, of any numbers, with its line feed (docs/OPERATIONS.md, "The audit and the program"). Nothing is refused.
 #[tactic(auto, unfolding(crate::specs::Report::report_text))]
 pub fn report_line(report: Report) -> OutputLine
     ensures answer { result ≡ output_of (report_text report) }

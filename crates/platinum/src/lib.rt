@@ -2,6 +2,7 @@
 #![tactic(auto)]
 
 mod curve;
+/// What is proved of any two readings.
 pub mod laws;
 mod reading;
 mod search;

@@ -15,8 +15,8 @@ pub struct Fraction {
 }
 
 impl Fraction {
-    /// The same fraction in lowest terms. Nothing is refused: with a zero denominator there is no fraction, and both numbers are divided all the
-    /// same; two zeros, whose largest common divisor is 0, stay.
+    /// The same fraction in lowest terms (docs/OPERATIONS.md, "Error limits, comparison and verdict"). Nothing is refused: with a zero denominator
+    /// there is no fraction, and both numbers are divided all the same; two zeros, whose largest common divisor is 0, stay.
     #[tactic(auto, using(crate::proofs::LowestTerms::zeros_stay), unfolding(crate::specs::Divisors::reduced))]
     pub fn reduced(self) -> Fraction
         ensures answer { result ≡ reduced self }

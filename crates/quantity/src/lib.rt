@@ -4,6 +4,7 @@
 
 mod divisor;
 mod fraction;
+/// What is proved of the refusals' numbers.
 pub mod laws;
 mod product;
 mod range;

@@ -107,7 +107,7 @@ impl Refusal {
         self as u64
     }
 
-    /// The row that gives this refusal under a condition.
+    /// The row that gives this refusal under a condition (docs/OPERATIONS.md, "Refusals").
     pub fn when(self, condition: bool) -> Row
         ensures { result ≡ row self condition }
     {
@@ -130,6 +130,7 @@ impl fmt::Display for Refusal {
     }
 }
 
+/// A refusal is an error for those who treat any error alike.
 impl Error for Refusal {}
 
 /// A row of an operation: a refusal, and the condition under which it is given.
@@ -157,7 +158,8 @@ pub fn first_refusal(rows: &[Row]) -> Result<(), Refusal>
     Ok(())
 }
 
-/// Whether x lies outside low..high, both ends being inside. It is for plain numbers; temperatures and differences have `Unit::is_outside`.
+/// Whether x lies outside low..high, both ends being inside. It is for plain numbers; temperatures and differences have `Unit::is_outside`. Nothing
+/// is refused.
 #[tactic(auto, unfolding(crate::specs::Refusals::outside))]
 pub fn is_outside(x: u64, low: u64, high: u64) -> bool
     ensures { result ≡ outside x low high }

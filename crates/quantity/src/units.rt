@@ -34,7 +34,7 @@ pub trait Unit: Copy + PartialOrd + Sized {
         Self::of_hundredths(u64::from(count) * 100)
     }
 
-    /// Whether the value lies outside low..high, both ends being inside.
+    /// Whether the value lies outside low..high, both ends being inside. Nothing is refused.
     fn is_outside(self, low: Self, high: Self) -> bool
         ensures { result ≡ (is_less self low || is_less high self) }
     {

@@ -24,7 +24,7 @@ fn put_report(out: &mut impl Write, input: &[u8]) -> io::Result<()> {
     put_text(out, &report.bytes[..report.length])
 }
 
-// The line that was written at the front of a space, up to the next place, or the refusal.
+// The line that was written at the front of a space, up to the next position, or the refusal.
 pub(crate) fn put_written(
     out: &mut impl Write,
     space: &[u8],

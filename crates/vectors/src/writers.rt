@@ -6,7 +6,7 @@ use meter::{Card, Sample};
 use std::io;
 use std::io::Write;
 
-// `L,` a kind (0 opening, 1 card, 2 sample, 3 last line), the edition, the bytes lent, the place, and the line's numbers: the next place, or
+// `L,` a kind (0 opening, 1 card, 2 sample, 3 last line), the edition, the bytes lent, the position, and the line's numbers: the next position, or
 // X and the refusal, then the whole space. The last line has every edition's numbers.
 pub(crate) fn of_values(out: &mut impl Write, line: &[u8]) -> io::Result<()> {
     let [kind, edition, lent, at] = numbers::<4>(line, 1);

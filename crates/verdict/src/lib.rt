@@ -6,6 +6,7 @@ mod admitted;
 mod bench;
 mod class;
 mod kinds;
+/// What is proved of limit, comparison and verdict together.
 pub mod laws;
 mod limit;
 mod point;

@@ -4,6 +4,7 @@
 
 mod heat_coefficient;
 mod interpolation;
+/// What is proved of the definition of water.
 pub mod laws;
 mod pair;
 mod tables;

@@ -71,7 +71,8 @@ pub(crate) const VOLUME: [u32; ENTRIES] = [
     1121467629, 1122806552, 1124155064, 1125513261, 1126881244,
 ];
 
-/// The entry of a whole degree Celsius, or none past the last, 180. Nothing is refused.
+/// The entry of the water table at a whole degree Celsius, or none past the last, 180 (docs/OPERATIONS.md, "Water: table, heat coefficient, heat of a
+/// volume"). Nothing is refused.
 #[tactic(auto, using(crate::proofs::Entries::entry_at), unfolding(crate::specs::Table::entry_of))]
 pub fn table_entry(degree: u64) -> Option<Entry>
     ensures { result ≡ entry_of water degree }
