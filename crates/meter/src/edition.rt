@@ -25,7 +25,7 @@ pub fn keeps_seconds(edition: u64) -> bool
 }
 
 /// Whether meters of this edition accept samples whose supply is colder than the return and count them as cold, as from edition 3 on; editions 1
-/// and 2 refuse such a sample with 36. Any number is answered, also one that is no edition's.
+/// and 2 refuse such a sample with 36 (docs/FORMAT.md, "Bytes, lines and numbers"). Any number is answered, also one that is no edition's.
 pub fn counts_cold(edition: u64) -> bool
     ensures { result ≡ counts_cold edition }
 {

@@ -4,7 +4,7 @@ ghost use Rattle.platinum.specs.Sensor.{sensor_of, resistance_of};
 
 use crate::reading::Unmeasured;
 
-/// A kind of platinum sensor, by its resistance at 0 °C.
+/// A kind of platinum sensor (IEC 60751), by its resistance at 0 °C.
 #[derive(Clone, Copy, Debug, PartialEq, Eq)]
 pub enum Sensor {
     /// 100 ohm
