@@ -27,9 +27,9 @@ pub enum Report {
         accepted: u64,
         /// how many samples were refused
         refused: u64,
-        /// in mJ
+        /// the heat register, in mJ
         heat_register: u64,
-        /// in mL
+        /// the volume, in mL
         volume: u64,
     },
     /// X: why a file is refused, and at which line, counted from 1, or at 0 where the file was not looked into (68).
