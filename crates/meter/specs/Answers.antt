@@ -10,7 +10,7 @@ use Rattle.meter.specs.declared.state.Meter.{Meter}
 use Rattle.meter.specs.declared.sample.Sample.{Sample}
 use Rattle.meter.specs.declared.stepping.Stepped.{Stepped}
 
--- No row refuses the sample: none of its meter's card and state, and none of its own.
+-- No row refuses the sample: none of the meter's card and state, and none of the sample's own.
 pub record NoRowRefuses (m : Meter) (s : Sample) : Type 0 where
   pub card : NoneApplies (card_rows m.card)
   pub state : NoneApplies (state_rows m)
@@ -19,8 +19,8 @@ pub record NoRowRefuses (m : Meter) (s : Sample) : Type 0 where
   pub range : NoneApplies (range_rows m.edition m.card s)
   pub limit : NoneApplies (limit_rows m s)
 
--- The sample is accepted where no row refuses. Or the first row that applies is one of the sample's own, and the refused count grows by 1. Or it is
--- one of the card or the state, and the meter is unchanged.
+-- The sample is accepted where no row refuses it. Or the first row that applies is one of the sample's own, and the refused count grows by 1. Or that
+-- row is one of the card or the state, and the meter is unchanged.
 pub data Answers (m : Meter) (s : Sample) : Stepped → Type 0 where
   accepts : NoRowRefuses m s → Answers m s (record { meter = accepting m s; outcome = Ok tt })
   refuses_sample : (r : Refusal) → first_of (card_and_state_rows m) ≡ Ok tt → first_of (sample_rows m s) ≡ Err r →

@@ -1,6 +1,6 @@
 -- The card: what is fixed about a heat meter, and which cards are allowed (docs/FORMAT.md, "Line C: the meter's card"). A row is a refusal with the
--- condition under which it is given (quantity's specs/Refusals.antt, which has the numbers); the first row whose condition holds refuses the card,
--- and a card that no row refuses is accepted, or allowed.
+-- condition under which it is given (quantity's specs/Refusals.antt, which has the numbers). A row applies where its condition holds; the first row
+-- that applies refuses the card, and a card that no row refuses is allowed.
 use Rattle.std.specs.Prelude.{ℕ, ◌*◌, ◌^◌, List, [], ◌∷◌, not, ◌&&◌, ◌||◌, ltb, leb}
 use Rattle.quantity.specs.Refusals.{row, outside}
 use Rattle.quantity.specs.declared.refusal.Refusal.TheVariants as R
@@ -36,7 +36,7 @@ card_fields = 12
 -- A card is refused, in this order, with
 -- 10 unless its serial number is from 1 to 99999999,
 -- 11 unless the volume is measured in the supply or in the return,
--- 12 unless there is a platinum sensor of this resistance,
+-- 12 unless the sensors' resistance at 0 °C is 100, 500 or 1000 ohm,
 -- 13 unless a pulse stands for 1 mL to 100 L,
 -- 14 unless Θmin is below Θmax, and Θmax at most 180 °C,
 -- 15 unless Δmin is 1, 2 or 3 K,

@@ -25,7 +25,8 @@ quarters = 96
 abbrev pub zero_cells : List ℕ
 zero_cells = replicate quarters 0
 
--- A call is refused with 73 if no quarter has its index, the first one having 0 and the last one 95, or if any of its cells is above the limit of a register.
+-- A call is refused with 73 if its index is that of no quarter, the first one having 0 and the last one 95; or if any of its cells is above the limit
+-- of a register.
 unfoldable pub profile_rows : List ℕ → ℕ → List Row
 profile_rows cells index = row R.Profile (leb quarters index || list_any (λ cell. ltb largest_register cell) cells) ∷ []
 
@@ -48,7 +49,7 @@ abbrev pub by_profile : Meter → List ℕ → Sample → ℕ → Result Unit Re
 by_profile m cells s index (Ok u) = record { stepped = step_of m s; cells = cells_after m.card cells s index (step_of m s).outcome }
 by_profile m cells s index (Err r) = record { stepped = record { meter = m; outcome = Err r }; cells = cells }
 
--- What a call with an index answers, for any meter, cells, sample and index: the step's answer, or 73, and the cells afterwards. Row 73 is tried
--- before all rows of the step.
+-- What the step with an index answers, `step_in_quarter` in the code, for any meter, cells, sample and index: the step's answer, or 73, and the cells
+-- afterwards. Row 73 is tried before all rows of the step.
 unfoldable pub in_quarter_of : Meter → List ℕ → Sample → ℕ → Profiled
 in_quarter_of m cells s index = by_profile m cells s index (first_of (profile_rows cells index))

@@ -1,5 +1,5 @@
--- The two registers of a meter, heat and cold, and whose own a sample is (docs/OPERATIONS.md, "The registers' bounds"). Whatever is said of a
--- register takes it as a parameter, so that one statement holds of both.
+-- The two registers of a meter, heat and cold, and which of them counts a sample (docs/OPERATIONS.md, "The registers' bounds"). Whatever is said of
+-- a register takes it as a parameter, so that one statement holds of both.
 use Rattle.std.specs.Prelude.{ℕ, Bool, true, false, cond}
 use Rattle.quantity.specs.Units.{is_colder}
 use Rattle.quantity.specs.declared.units.Temperature.{Temperature}
@@ -15,12 +15,13 @@ abbrev pub register_of : Register → Meter → ℕ
 register_of Heat m = m.heat_register
 register_of Cold m = m.cold_register
 
--- Which register counts a sample, if it is accepted: the cold register where the supply is colder than the return, and otherwise the heat register.
--- The sample is called that register's own.
+-- Which register counts a sample of these two temperatures, if it is accepted: the cold register where the supply is colder than the return, and
+-- otherwise the heat register. An accepted sample is called that register's own.
 abbrev pub register_by : Temperature → Temperature → Register
 register_by supply_temperature return_temperature = cond (is_colder supply_temperature return_temperature) Cold Heat
 
--- The same by a sample's ts and tr. A refused sample has such a register too; `is_own` of specs/Sum.antt leaves it out.
+-- The same by a sample's ts and tr. The definition names a register for a refused sample too, which no register counts; `is_own` of specs/Sum.antt
+-- leaves such a sample out.
 abbrev pub own_register : Card → Sample → Register
 own_register c s = register_by (ts c s) (tr c s)
 
@@ -31,6 +32,6 @@ is_same Heat Cold = false
 is_same Cold Heat = false
 is_same Cold Cold = true
 
--- Of n mJ that are one register's own, a register gets all if it is that one, and otherwise nothing.
+-- What a register r gets of n mJ that are the register `own`'s: all of them if r is that one, and otherwise nothing.
 abbrev pub added_to : Register → Register → ℕ → ℕ
 added_to r own n = cond (is_same r own) n 0

@@ -1,4 +1,4 @@
--- A sample: what the flow sensor and the temperature sensor pair gave in some seconds. With the meter's card it has a volume, two temperatures, and
+-- A sample: what the flow sensor and the temperature sensor pair gave in a time of some seconds. With the meter's card it has a volume, two temperatures, and
 -- an exact heat or cold (docs/FORMAT.md, "A sample's volume and temperatures" and "Heat and cold").
 use Rattle.std.specs.Prelude.{ℕ, ◌*◌, List, [], ◌∷◌, Bool, ltb, Result, Ok, Err}
 use Rattle.quantity.specs.declared.units.Temperature.{Temperature}
@@ -35,12 +35,13 @@ supply_of c s = temperature_of c.sensor s.supply_reading
 abbrev pub return_of : Card → Sample → Result Temperature Unmeasured
 return_of c s = temperature_of c.sensor s.return_reading
 
--- What stands in for the temperature of a reading that has none, so that the definitions below speak of any sample: 0 °C. No accepted sample has
--- it: `reading_rows` of specs/Step.antt refuse such a sample, and the step promises so (`AcceptedHasTemperatures` of specs/Theorems.antt).
+-- What stands in for the temperature of a reading that has none, so that the definitions below speak of any sample: 0 °C. It never
+-- counts: `reading_rows` of specs/Step.antt refuse a sample with such a reading, and the step promises so (`AcceptedHasTemperatures` of
+-- specs/Theorems.antt).
 abbrev pub missing_temperature : Temperature
 missing_temperature = record { 0 = 0 }
 
--- An answer's temperature, or this default.
+-- The temperature that an answer has, or this one where it has none.
 abbrev pub temperature_or_missing : Result Temperature Unmeasured → Temperature
 temperature_or_missing (Ok t) = t
 temperature_or_missing (Err u) = missing_temperature

@@ -36,16 +36,17 @@ largest_volume = 10 ^ 15 - 1
 abbrev pub largest_count : ℕ
 largest_count = 10 ^ 12
 
--- A total is above its limit. The two counts together come as a number of their own, since the code caps their sum, which can pass 64 bits.
+-- A total is above its limit. The number `count` stands for the two counts together. It is given apart from the meter, since the code takes the
+-- largest number of 64 bits for a sum that passes 64 bits, and this number is above the limit as the sum is.
 abbrev pub passes_limit_by : Meter → ℕ → Bool
 passes_limit_by m count =
     ltb largest_register m.heat_register || ltb largest_register m.cold_register || ltb largest_volume m.volume || ltb largest_count count
 
--- The same with the sum of the meter's own two counts.
+-- The same, where that number is the sum of the meter's own two counts.
 abbrev pub passes_limit : Meter → Bool
 passes_limit m = passes_limit_by m (m.accepted + m.refused)
 
--- The longest time of a sample, an hour (row 30 of specs/Step.antt); so no accepted sample adds more to the kept seconds.
+-- The longest time of a sample in seconds, an hour (row 30 of specs/Step.antt); so no accepted sample adds more to the kept seconds.
 abbrev pub most_seconds : ℕ
 most_seconds = 3600
 

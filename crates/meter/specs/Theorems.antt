@@ -149,7 +149,7 @@ pub record LackedZero (e : ℕ) (m : Meter) : Type 0 where
   pub seconds : keeps_seconds e ≡ false → m.kept_seconds ≡ 0
   pub cold : counts_cold e ≡ false → m.cold_register ≡ 0
 
--- A meter that none of 10 to 18 and 20 refuses, in plain numbers: its card is allowed, its totals are within their limits, and they fit its
+-- A meter that none of 10 to 18 and 20 refuses, limit by limit: its card is allowed, its totals are within their limits, and they fit its
 -- edition. The counts may have reached their limit, which 21 refuses.
 pub record WithinLimits (m : Meter) : Type 0 where
   pub card : first_of (card_rows m.card) ≡ Ok tt
@@ -170,15 +170,15 @@ abbrev pub LackedStaysZero : Type 0
 LackedStaysZero =
     (c : Card) (e : ℕ) (m : Meter) → fresh_of c e ≡ Ok m → (ks : List Mark) (z : Meter) → Calls m ks z → LackedZero e z
 
--- So a meter after calls is refused for its card or its state with 21 alone: the step accepts any further sample, or refuses it with 21, or with a
--- number from 30 on, which only a sample's own rows have.
+-- So a meter after calls is refused for its card or its state with 21 alone: the step accepts any further sample (0), or refuses it with 21, or with
+-- a number from 30 on, which in the step only the sample's own rows give.
 abbrev pub NoOtherRefusal : Type 0
 NoOtherRefusal =
     (c : Card) (e : ℕ) (m : Meter) → fresh_of c e ≡ Ok m → (ks : List Mark) (z : Meter) → Calls m ks z → (s : Sample) →
     let n = refusal_number (step_of z s).outcome in
     (n ≡ 0) ⊎ ((n ≡ 21) ⊎ (30 ≤ n))
 
--- 1 for an outcome other than 21 and 73, and 0 for these two.
+-- What a call with this outcome adds to the two counts together: nothing where 21 or 73 refused it, and otherwise 1.
 abbrev pub counts_of : Result Unit Refusal → ℕ
 counts_of outcome = cond (eqb (refusal_number outcome) 21 || eqb (refusal_number outcome) 73) 0 1
 
@@ -249,8 +249,8 @@ DayExists = (m : Meter) (cells : List ℕ) (qs : List InQuarter) → DayCalls m 
 abbrev pub OnlyDay : Type 0
 OnlyDay = (m z : Meter) (cells last : List ℕ) (qs : List InQuarter) → DayCalls m cells qs z last → (z, last) ≡ day_of m cells qs
 
--- The calls of a day are among those of the register theorem: there are calls in its sense in which just the same is asked, and which lead from the
--- same meter to the same.
+-- The calls of a day are among those of the register theorem: there is a list of calls (specs/Calls.antt) in which just the same is asked, and which
+-- leads from the same first meter to the same last one.
 abbrev pub DayStands : Type 0
 DayStands =
     (m z : Meter) (cells last : List ℕ) (qs : List InQuarter) → DayCalls m cells qs z last →

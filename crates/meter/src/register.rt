@@ -5,7 +5,7 @@ ghost use Rattle.meter.specs.Register.{register_of, register_by};
 use crate::state::Meter;
 use quantity::Temperature;
 
-/// Which register is meant, each in mJ (docs/OPERATIONS.md, "The registers' bounds").
+/// The name of a register. Each counts mJ (docs/OPERATIONS.md, "The registers' bounds").
 #[derive(Clone, Copy, Debug, PartialEq, Eq)]
 pub enum Register {
     /// the heat of accepted samples whose supply is not colder than their return

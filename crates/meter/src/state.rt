@@ -50,7 +50,7 @@ impl Meter {
         self.state_refusal()
     }
 
-    // Rows 20 and 21. The sum of the two counts can pass 64 bits: it is capped there, far above its limit.
+    // Rows 20 and 21. The sum of the two counts can pass 64 bits: then the largest number of 64 bits stands for it, which is above the limit too.
     fn state_refusal(self) -> Result<(), Refusal>
         ensures { result ≡ first_of (state_rows self) }
     {
@@ -61,7 +61,7 @@ impl Meter {
         ])
     }
 
-    // Whether row 20 meets the meter, whose two counts together are `count`.
+    // Whether row 20 applies to the meter, whose two counts together are `count`.
     fn is_refused(self, count: u64) -> bool
         ensures { result ≡ (passes_limit_by self count || misfits_edition self) }
     {
@@ -78,7 +78,8 @@ impl Meter {
     }
 
     // Whether edition and totals cannot belong together: there is no such edition, or there are more kept seconds than there can be, or a total is
-    // not 0 that the edition lacks. The limit of the kept seconds can pass 64 bits: capped there, it is still below no number of 64 bits.
+    // not 0 that the edition lacks. The limit of the kept seconds can pass 64 bits: then the largest number of 64 bits stands for it, and no number of
+    // 64 bits is above either.
     fn misfits_edition(self) -> bool
         ensures { result ≡ misfits_edition self }
     {
