@@ -1,6 +1,6 @@
 -- The two operations that make up the verdict, so that a certificate can show the limit beside the pass or fail: the limit at a test point, as a
--- fraction in lowest terms, and the comparison of an error with any limit that is given. That they answer together what the verdict answers is
--- `FromPair` of Theorems. docs/OPERATIONS.md: "Error limits, comparison and verdict".
+-- fraction in lowest terms, and the comparison of an error with any limit that is given. One after the other they answer what the verdict answers
+-- (`FromPair` of specs/Theorems.antt). docs/OPERATIONS.md: "Error limits, comparison and verdict".
 use Rattle.std.specs.Prelude.{ℕ, Result, Ok}
 use Rattle.std.specs.Result.{result_and}
 use Rattle.quantity.specs.Divisors.{reduced}

@@ -1,10 +1,12 @@
 -- The maximum permissible errors of a heat meter and of its parts, in percent (OIML R 75-1, 9.2 at verification and 9.4 in service): the figures
--- of the flow sensor's classes, then the limit of each part at verification, and last what the stage makes of it. For class 1 that recommendation
--- only supposes figures, with a cap of 3.5 percent on the flow sensor; here all classes have the cap of 5. docs/OPERATIONS.md, "Error limits,
--- comparison and verdict", has the limits in a table.
--- Δ is the temperature difference of the test in kelvins; a test point has it as D, in hundredths of a kelvin. A limit is an exact fraction, added and
--- compared as quantity's Fractions tells. It is asked for only where no row of Rows refuses the test point, and there its denominator is above zero
--- (`limit_is_fraction` of proofs/Positive.antt).
+-- of the flow sensor's accuracy classes, then the limit of each part at verification, and last what the stage makes of it. For class 1 that
+-- recommendation leaves the figures open and presumes some in a note, with a cap of 3.5 percent on the flow sensor; here all classes have the cap of
+-- 5. docs/OPERATIONS.md, "Error limits, comparison and verdict", has the limits in a table.
+-- A test point tells what is tested and under which conditions: the part, its class, the stage, which is verification or service, the smallest
+-- temperature difference Δmin, the temperature difference of the test, the permanent flow rate qp and the flow rate q of the test. Δ is the difference
+-- of the test in kelvins; a test point has it as D, in hundredths of a kelvin.
+-- A limit is an exact fraction, added and compared as quantity's Fractions tells. It is asked for only where none of 50 to 54 refuses the test point
+-- (specs/Rows.antt), and there its denominator is above zero (`limit_is_fraction` of proofs/Positive.antt).
 use Rattle.std.specs.Prelude.{ℕ, ◌*◌, cond, eqb}
 use Rattle.quantity.specs.Fractions.{◌over◌, whole, plus, times, smaller}
 use Rattle.quantity.specs.declared.fraction.Fraction.{Fraction}
@@ -15,7 +17,7 @@ use Rattle.verdict.specs.declared.point.TestPoint.{TestPoint}
 abbrev pub hundredths : ℕ → Fraction
 hundredths n = n over 100
 
--- What a class fixes for its flow sensor, in hundredths of a percent: a constant, a factor for qp/q, and a cap on the two together.
+-- What a class fixes for its flow sensor, in hundredths of a percent: a constant c, a factor f for qp/q, and a cap m on the two together.
 abbrev pub figures : ℕ → ℕ → ℕ → Figures
 figures c f m = record { constant = c; factor = f; cap = m }
 
@@ -81,6 +83,6 @@ part_limit f p =
 abbrev pub limit_at_stage : ℕ → Fraction → Fraction
 limit_at_stage stage l = cond (eqb stage 1) l (times (whole 2) l)
 
--- The limit of a test point, with the figures of its class.
+-- The limit of a test point, where f are the figures of its class, `figures_of p.class`.
 unfoldable pub limit_of : Figures → TestPoint → Fraction
 limit_of f p = limit_at_stage p.stage (part_limit f p)

@@ -1,7 +1,7 @@
--- What refuses a test point, two values and a limit that is given: the refusals 50 to 55. A row is a refusal with the condition under which it
--- applies; rows are tried in order, and the first whose condition holds decides (`first_of` of quantity's Refusals). The limit tries the five rows of
--- the test point, 50 to 54, all of them for every part, also those on numbers that the part's limit does not use; the comparison tries 55; the verdict
--- tries all six.
+-- What refuses a test point, two values and a limit that is given: the refusals 50 to 55. The two values are the indicated one and the conventional
+-- true one. A row is a refusal with the condition under which it is given; it applies where its condition holds. Rows are tried in order, and the first
+-- that applies decides (`first_of` of quantity's Refusals). The limit tries the five rows of the test point, 50 to 54, all of them for every part, also
+-- those on numbers that the part's limit does not use; the comparison tries 55; the verdict tries all six.
 -- docs/OPERATIONS.md: "Error limits, comparison and verdict", and "Refusals" for each number's sentence.
 use Rattle.std.specs.Prelude.{ℕ, ◌-◌, ◌^◌, ◌≡◌, Bool, ◌||◌, List, [], ◌∷◌, ◌++◌, ltb, eqb, Ok}
 use Rattle.quantity.specs.Units.{largest_kelvins, whole_kelvins, is_smaller}
@@ -12,8 +12,8 @@ use Rattle.quantity.specs.declared.refusal.Row.{Row}
 use Rattle.quantity.specs.declared.units.Difference.{Difference}
 use Rattle.verdict.specs.declared.point.TestPoint.{TestPoint}
 
--- 53: Δmin is none of 1, 2 and 3 K, or the temperature difference of the test is below Δmin or above 180 K. The test's is counted in hundredths of a
--- kelvin, and so are the two ends that it is held to.
+-- 53: Δmin, which is δ here, is none of 1, 2 and 3 K, or the temperature difference d of the test is below Δmin or above 180 K. That of the test is in
+-- hundredths of a kelvin, and so are the two ends that it is held to.
 unfoldable pub difference_outside : ℕ → Difference → Bool
 difference_outside δ d = outside δ 1 3 || is_smaller d (whole_kelvins δ) || is_smaller (whole_kelvins largest_kelvins) d
 
@@ -47,7 +47,8 @@ point_rows p =
 abbrev pub value_rows : ℕ → ℕ → List Row
 value_rows i x = row R.Values (value_outside i x) ∷ []
 
--- 55 where they are compared with a limit that is given, which may be any two numbers: a denominator of 0 is no fraction, and is refused too.
+-- 55 where the two values are compared with a limit that is given, which may be any two numbers: with a denominator of 0 it is no fraction, and is
+-- refused too.
 unfoldable pub incomparable : Fraction → ℕ → ℕ → Bool
 incomparable l i x = value_outside i x || eqb l.denominator 0
 

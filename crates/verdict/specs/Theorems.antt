@@ -1,6 +1,6 @@
 -- What is proved of the limit, of the comparison and of the verdict: when each gives its answer, how they hang together, and formulas and figures by
--- which a reader can check them. Each statement has the name of the clause or of the law that promises it. I is the indicated value, X the conventional
--- true value.
+-- which a reader can check them. The clause of a contract, or the function of src/laws.rt, that promises a statement has the same name in small
+-- letters. I is the indicated value, X the conventional true value; in the definitions they are i and x.
 use Rattle.std.specs.Prelude.{ℕ, ◌+◌, ◌*◌, ◌≤◌, ◌≡◌, ◌↔◌, Result, Ok, Err}
 use Rattle.quantity.specs.Divisors.{InLowestTerms}
 use Rattle.quantity.specs.Fractions.{whole, IsFraction, plus, times, AtMost, Same, Represents}
@@ -62,8 +62,8 @@ FromPair = (p : TestPoint) (i x : ℕ) → compared_with (error_limit_of p) i x 
 abbrev pub EqualComparisons : Type 0
 EqualComparisons = (l m : Fraction) (i x : ℕ) → IsFraction l → IsFraction m → Same l m → comparison_of l i x ≡ comparison_of m i x
 
--- An indicated value as far above X as another lies below it, the two being I and 2X − I, gets the same verdict. 55 could refuse the upper one
--- alone, so both are supposed to be within its range. Here they are i and j.
+-- An indicated value as far above X as another lies below it gets the same verdict: the two are I and 2X − I, here i and j. 55 could refuse the upper
+-- one alone, so both are supposed to be no larger than the largest value.
 abbrev pub Mirrored : Type 0
 Mirrored =
     (p : TestPoint) (i j x : ℕ) → i + j ≡ 2 * x → i ≤ largest_value → j ≤ largest_value → verdict_of p i x ≡ verdict_of p j x
@@ -84,7 +84,7 @@ HasFormula class k n =
 abbrev pub CompleteFormula : Type 0
 CompleteFormula = HasFormula 1 2 1 × HasFormula 2 3 2 × HasFormula 3 4 5
 
--- At verification no complete instrument's limit passes 10 percent, so that a cap of 10 on the sum decides nothing there.
+-- At verification no complete instrument's limit passes 10 percent. So a cap of 10 on the sum, which some national rules have, decides nothing there.
 abbrev pub AtMost10 : Type 0
 AtMost10 = (p : TestPoint) → Admitted p → p.part ≡ 4 → p.stage ≡ 1 → AtMost (limit_of (figures_of p.class) p) (whole 10)
 

@@ -1,6 +1,6 @@
 -- The verdict on an indicated value I, X being the conventional true value: it passes if the error, in percent of X, is no larger than the limit at the
 -- test point, and fails if it is larger. Nothing is divided or rounded: the error and the limit are compared after both are multiplied by X, as exact
--- fractions. docs/OPERATIONS.md: "Error limits, comparison and verdict".
+-- fractions. In the definitions I and X are i and x. docs/OPERATIONS.md: "Error limits, comparison and verdict".
 use Rattle.std.specs.Prelude.{ℕ, ◌-◌, ◌*◌, min, max, Bool, true, false, Result, Ok}
 use Rattle.std.specs.Result.{result_and}
 use Rattle.quantity.specs.Fractions.{whole, times, is_at_most}

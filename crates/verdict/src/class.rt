@@ -6,7 +6,7 @@ ghost use Rattle.verdict.specs.Inside.Kinds.{class_number};
 
 use crate::kinds::Class;
 
-// The cap of every class: 5 percent, in hundredths of a percent. For class 1 OIML R 75-1 only supposes a cap, of 3.5 percent, and leaves it open.
+// The cap of every class: 5 percent, in hundredths of a percent. For class 1 OIML R 75-1 presumes 3.5 percent, and leaves it open.
 const FIXED_CAP: u64 = 500;
 
 // The three numbers of a flow sensor's limit, constant + factor × qp/q and at most cap, in hundredths of a percent.

@@ -1,4 +1,5 @@
-// What is proved of limit, comparison and verdict together, whatever the inputs. The functions have no code: each promises its statement of specs/Theorems.
+// What is proved of limit, comparison and verdict together, whatever the inputs. The functions have no code: each promises its statements of
+// specs/Theorems.antt.
 ghost use Rattle.verdict.specs.Theorems.{FromPair, InService, Mirrored, EqualComparisons, CompleteFormula, AtMost10};
 
 /// The limit and the comparison together answer what the verdict answers, its refusals included.

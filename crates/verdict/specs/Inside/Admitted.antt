@@ -1,4 +1,4 @@
--- What an admitted test point is: one whose kinds are read and that no row refuses.
+-- What an admitted test point is in the code: one that no row refuses, and whose kinds (part, class and stage) are cases and no longer numbers.
 use Rattle.std.specs.Prelude.{◌≡◌, Result, Err, MatchResult}
 use Rattle.quantity.specs.Refusals.{first_of}
 use Rattle.quantity.specs.declared.refusal.Refusal.{Refusal}
@@ -7,7 +7,7 @@ use Rattle.verdict.specs.Inside.Kinds.{part_number, class_number, stage_number}
 use Rattle.verdict.specs.declared.admitted.AdmittedPoint.{AdmittedPoint}
 use Rattle.verdict.specs.declared.point.TestPoint.{TestPoint}
 
--- The test point that it was made of: each kind is again the number that names it.
+-- The test point that an admitted one was made of: each kind is again the number that names it.
 abbrev pub point_of : AdmittedPoint → TestPoint
 point_of a =
     record {

@@ -1,4 +1,4 @@
--- The numbers by which a test point names its kinds, and how each is read.
+-- The numbers by which a test point names its kinds, which are its part, its class and its stage, and how each number is read.
 use Rattle.std.specs.Prelude.{◌≡◌, ℕ, true, false, Result, MatchResult}
 use Rattle.quantity.specs.Refusals.{outside}
 use Rattle.quantity.specs.declared.refusal.Refusal.{Refusal}
