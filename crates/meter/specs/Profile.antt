@@ -1,4 +1,4 @@
--- The day profile (docs/OPERATIONS.md, "The day profile"): when in the day a house drew its heat. A day has 96 quarters of an hour, and a cell of
+-- The day profile (docs/OPERATIONS.md, "The day profile"): how the heat of a day is spread over it. A day has 96 quarters of an hour, and a cell of
 -- mJ for each; a sample comes with the index of the quarter that it belongs to.
 use Rattle.std.specs.Prelude.{ℕ, ◌+◌, List, [], ◌∷◌, cond, ◌||◌, ltb, leb, get_or, set, replicate, Result, Ok, Err}
 use Rattle.std.specs.List.{list_any}
@@ -25,8 +25,8 @@ quarters = 96
 abbrev pub zero_cells : List ℕ
 zero_cells = replicate quarters 0
 
--- A call is refused with 73 if its index is that of no quarter, the first one having 0 and the last one 95; or if any of its cells is above the limit
--- of a register.
+-- A call is refused with 73 if no quarter has its index, the first one having 0 and the last one 95, or if one of the cells that it is given is above
+-- the limit of a register.
 unfoldable pub profile_rows : List ℕ → ℕ → List Row
 profile_rows cells index = row R.Profile (leb quarters index || list_any (λ cell. ltb largest_register cell) cells) ∷ []
 

@@ -35,9 +35,9 @@ supply_of c s = temperature_of c.sensor s.supply_reading
 abbrev pub return_of : Card → Sample → Result Temperature Unmeasured
 return_of c s = temperature_of c.sensor s.return_reading
 
--- What stands in for the temperature of a reading that has none, so that the definitions below speak of any sample: 0 °C. It never
--- counts: `reading_rows` of specs/Step.antt refuse a sample with such a reading, and the step promises so (`AcceptedHasTemperatures` of
--- specs/Theorems.antt).
+-- What stands in for the temperature of a reading that has none, so that the definitions below speak of any sample: 0 °C. No accepted sample needs
+-- it: `reading_rows` of specs/Step.antt refuse such a reading, and the step promises that both readings of an accepted sample have a temperature
+-- (`AcceptedHasTemperatures` of specs/Theorems.antt).
 abbrev pub missing_temperature : Temperature
 missing_temperature = record { 0 = 0 }
 

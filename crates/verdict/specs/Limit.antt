@@ -83,6 +83,6 @@ part_limit f p =
 abbrev pub limit_at_stage : ℕ → Fraction → Fraction
 limit_at_stage stage l = cond (eqb stage 1) l (times (whole 2) l)
 
--- The limit of a test point, where f are the figures of its class, `figures_of p.class`.
+-- The limit of a test point, by any figures f; those of its class are `figures_of p.class`.
 unfoldable pub limit_of : Figures → TestPoint → Fraction
 limit_of f p = limit_at_stage p.stage (part_limit f p)

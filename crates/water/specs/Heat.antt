@@ -30,7 +30,7 @@ pair_heat w u ts tr place =
     let measured = at_place place ts tr in
     cond (is_colder ts tr) (exact_heat w u tr ts measured) (exact_heat w u ts tr measured)
 
--- The largest volume whose heat is given, in mL: a cubic metre. A sample has no more.
+-- The largest volume whose heat is given, in mL: a cubic metre. A sample with more is refused.
 abbrev pub most_millilitres : ℕ
 most_millilitres = 1000000
 

@@ -25,8 +25,8 @@ are_equal a b = not (is_colder a b) && not (is_colder b a)
 abbrev pub is_above : Table → Temperature → Bool
 is_above w t = is_colder (whole_degrees w.last) t
 
--- The first rows of both operations: another place than 1 and 2 (11), ts above 180.00 °C (70), tr above it (71). A temperature that is given is
--- never below 0.00 °C, so that 32 and 33 do not come here.
+-- The first rows of both operations: another place than 1 and 2 (11), ts above the table's last degree, which is 180.00 °C (70), tr above it (71). A
+-- temperature that is given is never below 0.00 °C, so that 32 and 33 do not come here.
 abbrev pub pair_rows : Table → Temperature → Temperature → ℕ → List Row
 pair_rows w ts tr place =
     row Place (outside place 1 2)

@@ -1,6 +1,6 @@
--- Exact fractions with a sign. IAPWS-IF97 is worked out in them, and nothing else is: its coefficients and exponents have either sign. A fraction
--- is an integer, its numerator, over a whole number. None is reduced, and nothing is rounded but by `nearest`, once, at the end. The fractions of
--- heats, sums and limits have no sign: specs/Fractions.antt of quantity.
+-- Exact fractions with a sign. IAPWS-IF97 is worked out in them, since its coefficients and exponents have either sign, and so are the published
+-- figures that check it; nothing else is. A fraction is an integer, its numerator, over a whole number. None is reduced, and nothing is rounded
+-- but by `nearest`, once, at the end. The fractions of heats, sums and limits have no sign: specs/Fractions.antt of quantity.
 use Rattle.std.specs.Prelude.{ℕ, zero, suc, ◌+◌, ◌*◌, ◌/◌, ◌^◌, ℤ, pos, negsuc, neg_ℤ, ◌+ℤ◌, ◌*ℤ◌}
 
 infix 5 ◌per◌

@@ -15,7 +15,7 @@ use Rattle.meter.specs.declared.register.Register.{Register}
 use Rattle.meter.specs.declared.state.Meter.{Meter}
 use Rattle.meter.specs.declared.sample.Sample.{Sample}
 
--- Of a card that none of its rows refuses: the bounds of its numbers.
+-- Of a card that none of its rows refuses: those bounds of its numbers that the code and its proofs need.
 pub record AcceptedCard (c : Card) : Type 0 where
   pub serial : c.serial ≤ 99999999
   pub sensor : c.sensor ≤ 1000
