@@ -1,4 +1,4 @@
-// The openings, each edition's first line: a fixed byte string, which the reader compares and the writer writes as it stands.
+// The openings, each edition's first line. Each is a constant, whose bytes reader and writer have in common.
 ghost use Rattle.std.specs.Prelude.{◌≡◌, false, ◌≤◌, length};
 ghost use Rattle.meter.specs.Edition.{last_edition, is_other_edition};
 ghost use Rattle.lines.specs.Bytes.{archive_word};

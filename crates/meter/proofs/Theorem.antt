@@ -128,7 +128,7 @@ by_rows : (x m : Meter) (o : Result Unit Refusal) → result_and o (Ok x) ≡ Ok
 by_rows x m (Ok u) e = (refl, cc)
 by_rows x m (Err n) e = absurd cc
 
--- a fresh meter is that of an accepted card and an edition, with zeros
+-- what `fresh` makes is the meter with zeros, of this card and edition, and the card is allowed
 pub fresh_zeros : (c : Card) (e : ℕ) (m : Meter) → fresh_of c e ≡ Ok m → IsFresh c e m
 unfolding fresh_of
 fresh_zeros c e m h =

@@ -75,7 +75,7 @@ CellAsRegister m cells s i answer =
 -- The register theorem. For every card that is allowed, every edition, every list of calls from the fresh meter of the two, and each of the two
 -- registers: what the register holds at the end is not above its exact sum; it is not below the sum by more than 1 mJ for each of its own samples
 -- that has a volume; and it is not below the sum by more than a two-thousandth of the sum. A call is one of `step`, or one of `step_in_quarter`
--- with any cells and any index; refused calls belong to the list, and the list may be empty.
+-- with any cells and any index; refused calls belong to the list, and a list without a call is one too.
 abbrev pub RegisterBounds : Type 0
 RegisterBounds =
     (c : Card) (e : ℕ) (m : Meter) → fresh_of c e ≡ Ok m → (ks : List Mark) (z : Meter) → Calls m ks z → (r : Register) →

@@ -1,4 +1,4 @@
-// The day profile by quarter hours: the step for a sample that comes with the index of its quarter.
+// The day profile: the step for a sample that comes with the index of its quarter of an hour.
 ghost use Rattle.std.specs.Prelude.{◌≡◌, ◌++◌, IfOk, Ok, ltb};
 ghost use Rattle.std.specs.List.{list_any};
 ghost use Rattle.std.specs.Result.{result_and};

@@ -1,5 +1,5 @@
--- The sensor kinds. A platinum sensor is named by its resistance at 0 °C, which is called n and is 100, 500 or 1000 ohm. Both sensors of the
--- temperature sensor pair are of the kind that the card names. docs/FORMAT.md, "Line C: the meter's card".
+-- The sensor kinds: Pt 100, Pt 500 and Pt 1000. The number in a platinum sensor's name tells the ohms that it has at 0 °C, which are called n here.
+-- Both sensors of the temperature sensor pair are of the kind that the card names. docs/FORMAT.md, "Line C: the meter's card".
 use Rattle.std.specs.Prelude.{◌≡◌, ◌⊎◌, ℕ, Bool, true, false, cond, eqb, Result, Ok, Err}
 use Rattle.platinum.specs.declared.sensor.Sensor.{Sensor}
 use Rattle.platinum.specs.declared.sensor.Sensor.TheVariants.{Pt100, Pt500, Pt1000}

@@ -1,5 +1,5 @@
--- The temperature of a reading, by the curve of IEC 60751. A reading r is a resistance in units of 0.0001 ohm; n is the sensor's resistance at
--- 0 °C, in ohm; a temperature t is a number of hundredths of °C. docs/FORMAT.md, "A sample's volume and temperatures".
+-- The temperature of a reading, by the curve of IEC 60751. The units: readings, called r, are resistances in 0.0001 ohm; n, what the sensor has at
+-- 0 °C, is in ohm; temperatures, called t, are in hundredths of °C. docs/FORMAT.md, "A sample's volume and temperatures".
 use Rattle.std.specs.Prelude.{ℕ, ◌+◌, ◌-◌, ◌*◌, ◌≤◌, cond, leb, ltb, Result, Ok, Err}
 use Rattle.quantity.specs.Largest.{largest}
 use Rattle.quantity.specs.Units.{last_hundredth}

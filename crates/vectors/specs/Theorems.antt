@@ -1,6 +1,6 @@
 -- Edges, that is, inputs beside which another input gets another answer: the two ends of the range of a Pt 100 (IEC 60751), some readings inside it, and
--- the edges of the verdict. Some are marked out to be proved together of the definitions, in one fact (`marked_edges` of proofs/Edges.antt); the program
--- runs these and all others. docs/FORMAT.md: "A sample's volume and temperatures"; docs/OPERATIONS.md: "The temperature of one reading".
+-- the edges of the verdict. What the definitions answer at each of them is one theorem (`marked_edges` of proofs/Edges.antt). The program is run on these
+-- edges too. docs/FORMAT.md: "A sample's volume and temperatures"; docs/OPERATIONS.md: "The temperature of one reading".
 use Rattle.std.specs.Prelude.{◌≡◌, ℕ, Result, Ok, Err}
 use Rattle.quantity.specs.Refusals.{number_of}
 use Rattle.quantity.specs.declared.refusal.Refusal.{Refusal}

@@ -36,7 +36,7 @@ pub(crate) fn of_degree(out: &mut impl Write, line: &[u8]) -> io::Result<()> {
     }
 }
 
-// Rounded to nearest, halves up, for a value below 10^12 and an even unit; 0 where there is no unit.
+// How many units a value is, to the nearest one and a half upwards, for a value below 10^12 and an even unit; 0 where there is no unit.
 fn in_units(value: u64, unit: u64) -> u64 {
     (value % 1000000000000 + unit / 2)
         .checked_div(unit)

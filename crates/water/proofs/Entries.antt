@@ -1,5 +1,5 @@
--- Each entry of a table's two arrays is the rounded IF97 value: one test that is computed over all degrees, and the law
--- that gives it at one of them. Stated for any table and any two lists, and used for the table at 16 bar.
+-- The numbers in a table's two arrays are those that the definition gives by IAPWS-IF97: one test, computed over all degrees, and the law that gives it
+-- at one of them. Stated for any table and any two lists, and used for the table at 16 bar.
 -- Assumes nothing.
 use mathlib.Core.Path.{◌≡◌, refl}
 use borrow.Author.Tests.{le-leb}
