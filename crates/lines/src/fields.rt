@@ -6,7 +6,7 @@ use crate::number::read_field;
 use quantity::Refusal;
 
 // Reads the numbers after a line's letter into out, as many as it holds, and answers how many bytes the line takes, its letter among them, or the
-// refusal, 61 or 62. The first field that is no number ends the reading: what is wrong with the line is then told by `fault`.
+// refusal, 61 or 62. It stops at the first field that is no number: what is wrong with the line is then told by `fault`.
 #[tactic(auto, using(crate::proofs::Turns::ends))]
 pub(crate) fn read_numbers(after: &[u8], out: &mut [u64]) -> Result<usize, Refusal>
     ensures { NumbersRead after.now out.new result }

@@ -14,7 +14,7 @@ const LARGEST_FLOW: u64 = 1000000000;
 pub struct TestPoint {
     /// what is tested: 1 calculator, 2 temperature sensor pair, 3 flow sensor, 4 complete instrument; otherwise 50
     pub part: u64,
-    /// accuracy class, 1 to 3, whatever the part; otherwise 51
+    /// accuracy class, 1 to 3, which every part has to name; otherwise 51
     pub class: u64,
     /// 1 at verification, 2 in service; otherwise 52
     pub stage: u64,

@@ -10,7 +10,7 @@ use crate::interpolation::enthalpy_rise;
 use crate::pair::Pair;
 use quantity::{Refusal, Temperature, first_refusal};
 
-/// The largest volume whose heat is given, in mL: a cubic metre. No sample has more (31).
+/// The largest volume whose heat is given, in mL: a cubic metre. A sample with more is refused (31).
 pub const MOST_MILLILITRES: u64 = 1000000;
 
 /// The heat in mJ, rounded down, of u mL of water between a supply and a return temperature, both in hundredths of °C (OIML R 75-1), or its cold
