@@ -24,7 +24,7 @@ pt100_refusal r = refusal_of Alone (pt100 r)
 abbrev pub gives : ℕ → Result Temperature Unmeasured
 gives t = Ok (record { 0 = t })
 
--- The edges, each with the answer that the definitions give it.
+-- The edges that this theorem marks, each with the answer that the definitions give it.
 pub record MarkedEdges : Type 0 where
   -- The ends of the range: 0.00 °C is the lowest reading that has a temperature, and the one below it is refused with 32; 180.00 °C is the highest, and
   -- the one above it is refused with 70.
