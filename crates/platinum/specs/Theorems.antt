@@ -1,5 +1,5 @@
--- What is proved of temperatures. Each statement has the name of the clause or of the law that promises it. A sensor is named by its resistance n
--- at 0 °C, in ohm; r is a reading, in 0.0001 ohm.
+-- What is proved of temperatures. Each statement has the name of the clause or of the law that promises it. A sensor is given by n, the ohms that it
+-- has at 0 °C; r stands for one of its readings, which count 0.0001 ohm.
 use Rattle.std.specs.Prelude.{◌≡◌, ◌↔◌, ℕ, ◌*◌, ◌≤◌, ◌<◌, Result, Ok, Err}
 use Rattle.quantity.specs.Units.{last_hundredth}
 use Rattle.quantity.specs.declared.units.Temperature.{Temperature}
