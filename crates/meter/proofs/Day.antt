@@ -160,7 +160,7 @@ day_exists m cells (q ∷ qs) =
 
 only : {m z : Meter} {cells last : List ℕ} {qs : List InQuarter} → DayCalls m cells qs z last → (z, last) ≡ day_of m cells qs
 only no_call = refl
-only (call {z = z} {last = last} {qs = qs} q a p rest) = subst (λ (x : Profiled). (z, last) ≡ day_of x.stepped.meter x.cells qs) p (only rest)
+only (call {z = z} {last = last} {day = qs} q a p rest) = subst (λ (x : Profiled). (z, last) ≡ day_of x.stepped.meter x.cells qs) p (only rest)
 
 pub only_day : OnlyDay
 only_day m z cells last qs calls = only calls
@@ -168,7 +168,7 @@ only_day m z cells last qs calls = only calls
 stands : {m z : Meter} {cells last : List ℕ} {qs : List InQuarter} → DayCalls m cells qs z last →
     (ks : List Mark) × ((calls : Calls m ks z) × (asked_of calls ≡ day_asked m cells qs))
 stands no_call = ([], (none, refl))
-stands (call {cells = cells} {qs = qs} q a p rest) =
+stands (call {cells = cells} {day = qs} q a p rest) =
     let others = stands rest in
     let asked = asks_in_quarter cells q.sample q.index in (
       mark_of q.sample a.stepped ∷ others.0,

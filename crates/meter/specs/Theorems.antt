@@ -89,11 +89,11 @@ OwnExactly = (r : Register) (c : Card) (k : Mark) → (is_own r c k ≡ true) �
 -- Everything that a caller can ask is among the calls of the register theorem: for every list of askings (specs/Run.antt), from every meter, there
 -- are calls in which just this is asked.
 abbrev pub CallsExist : Type 0
-CallsExist = (m : Meter) (qs : List Asking) → (calls : Calls m (marks_asked m qs) (last_asked m qs)) × (asked_of calls ≡ qs)
+CallsExist = (m : Meter) (askings : List Asking) → (calls : Calls m (marks_asked m askings) (last_asked m askings)) × (asked_of calls ≡ askings)
 
 -- The marks of these calls are of the samples that were asked, in their order: none is left out, exchanged or made up.
 abbrev pub Given : Type 0
-Given = (m : Meter) (qs : List Asking) → map (λ (k : Mark). k.sample) (marks_asked m qs) ≡ map sample_asked qs
+Given = (m : Meter) (askings : List Asking) → map (λ (k : Mark). k.sample) (marks_asked m askings) ≡ map sample_asked askings
 
 -- And nothing else is among them: any calls leave just the marks that follow from what was asked in them,
 abbrev pub OnlyMarks : Type 0
@@ -185,7 +185,7 @@ counts_of outcome = cond (eqb (refusal_number outcome) 21 || eqb (refusal_number
 -- How many calls of a list of askings, from a meter on, are refused neither with 21 nor with 73.
 abbrev pub counted_of : Meter → List Asking → ℕ
 counted_of m [] = 0
-counted_of m (q ∷ qs) = counts_of (answer_of m q).outcome + counted_of (answer_of m q).meter qs
+counted_of m (asking ∷ askings) = counts_of (answer_of m asking).outcome + counted_of (answer_of m asking).meter askings
 
 -- After any calls the accepted and the refused count are together the number of the calls, but for those that were refused with 21 or 73.
 abbrev pub Counted : Type 0
@@ -229,29 +229,31 @@ HeatAsInEdition2 =
 -- In a day that begins with 96 zeros and any meter, the cells are, all together, what the heat register has grown by: they and what it held at the
 -- start add up to what it holds at the end. Each call goes on from the meter and the cells of the call before (specs/Day.antt).
 abbrev pub CellsTogether : Type 0
-CellsTogether = (m z : Meter) (qs : List InQuarter) (cells : List ℕ) → DayCalls m zero_cells qs z cells → sum cells + m.heat_register ≡ z.heat_register
+CellsTogether =
+    (m z : Meter) (day : List InQuarter) (cells : List ℕ) → DayCalls m zero_cells day z cells → sum cells + m.heat_register ≡ z.heat_register
 
 -- In such a day no cell is ever above the limit of a register.
 abbrev pub CellsWithinLimit : Type 0
-CellsWithinLimit = (m z : Meter) (qs : List InQuarter) (cells : List ℕ) → DayCalls m zero_cells qs z cells → (k : ℕ) → cell_at cells k ≤ largest_register
+CellsWithinLimit =
+    (m z : Meter) (day : List InQuarter) (cells : List ℕ) → DayCalls m zero_cells day z cells → (k : ℕ) → cell_at cells k ≤ largest_register
 
 -- So in such a day 73 is given to the next call exactly if its index is above 95, and never because of the cells.
 abbrev pub IndexAlone : Type 0
 IndexAlone =
-    (m z : Meter) (qs : List InQuarter) (cells : List ℕ) → DayCalls m zero_cells qs z cells → (s : Sample) (i : ℕ) →
+    (m z : Meter) (day : List InQuarter) (cells : List ℕ) → DayCalls m zero_cells day z cells → (s : Sample) (i : ℕ) →
     (refusal_number (in_quarter_of z cells s i).stepped.outcome ≡ 73) ↔ (quarters ≤ i)
 
 -- The calls of a day can be made of any samples with their index, in any order, from any meter and any cells on.
 abbrev pub DayExists : Type 0
-DayExists = (m : Meter) (cells : List ℕ) (qs : List InQuarter) → DayCalls m cells qs (day_of m cells qs).0 (day_of m cells qs).1
+DayExists = (m : Meter) (cells : List ℕ) (day : List InQuarter) → DayCalls m cells day (day_of m cells day).0 (day_of m cells day).1
 
 -- They lead to one meter only, and to one set of cells.
 abbrev pub OnlyDay : Type 0
-OnlyDay = (m z : Meter) (cells last : List ℕ) (qs : List InQuarter) → DayCalls m cells qs z last → (z, last) ≡ day_of m cells qs
+OnlyDay = (m z : Meter) (cells last : List ℕ) (day : List InQuarter) → DayCalls m cells day z last → (z, last) ≡ day_of m cells day
 
 -- The calls of a day are among those of the register theorem: there is a list of calls (specs/Calls.antt) in which just the same is asked, and which
 -- leads from the same first meter to the same last one.
 abbrev pub DayStands : Type 0
 DayStands =
-    (m z : Meter) (cells last : List ℕ) (qs : List InQuarter) → DayCalls m cells qs z last →
-    (ks : List Mark) × ((calls : Calls m ks z) × (asked_of calls ≡ day_asked m cells qs))
+    (m z : Meter) (cells last : List ℕ) (day : List InQuarter) → DayCalls m cells day z last →
+    (ks : List Mark) × ((calls : Calls m ks z) × (asked_of calls ≡ day_asked m cells day))

@@ -8,11 +8,11 @@ use Rattle.platinum.specs.Sensor.{resistance_of, sensor_of}
 use Rattle.platinum.specs.Temperature.{W, of_resistance, temperature_of}
 use Rattle.platinum.specs.Refusal.{refusal_of, unmeasured_refusal}
 use Rattle.verdict.proofs.Edges.{verdict_edges}
-use Rattle.vectors.specs.Theorems.{MarkedEdges}
+use Rattle.vectors.specs.Theorems.{Edges}
 
-pub marked_edges : MarkedEdges
+pub edges : Edges
 unfolding temperature_of sensor_of resistance_of of_resistance largest W refusal_of unmeasured_refusal refusal_at_end number_of
-marked_edges = record {
+edges = record {
   lowest = refl;
   below = refl;
   below_number = refl;

@@ -1,5 +1,5 @@
 -- Edges, that is, inputs beside which another input gets another answer: the two ends of the range of a Pt 100 (IEC 60751), some readings inside it, and
--- the edges of the verdict. What the definitions answer at each of them is one theorem (`marked_edges` of proofs/Edges.antt). The program is run on these
+-- the edges of the verdict. What the definitions answer at each of them is one theorem (`edges` of proofs/Edges.antt). The program is run on these
 -- edges too. docs/FORMAT.md: "A sample's volume and temperatures"; docs/OPERATIONS.md: "The temperature of one reading".
 use Rattle.std.specs.Prelude.{◌≡◌, ℕ, Result, Ok, Err}
 use Rattle.quantity.specs.Refusals.{number_of}
@@ -24,8 +24,8 @@ pt100_refusal r = refusal_of Alone (pt100 r)
 abbrev pub gives : ℕ → Result Temperature Unmeasured
 gives t = Ok (record { 0 = t })
 
--- The edges that this theorem marks, each with the answer that the definitions give it.
-pub record MarkedEdges : Type 0 where
+-- The edges, each with the answer that the definitions give it.
+pub record Edges : Type 0 where
   -- The ends of the range: 0.00 °C is the lowest reading that has a temperature, and the one below it is refused with 32; 180.00 °C is the highest, and
   -- the one above it is refused with 70.
   pub lowest : pt100 1000000 ≡ gives 0

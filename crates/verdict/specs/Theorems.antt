@@ -68,7 +68,8 @@ abbrev pub Mirrored : Type 0
 Mirrored =
     (p : TestPoint) (i j x : ℕ) → i + j ≡ 2 * x → i ≤ largest_value → j ≤ largest_value → verdict_of p i x ≡ verdict_of p j x
 
--- The limit of a complete instrument in one formula, as other published rules for heat meters print it: k + 4 × Δmin/Δ + n/100 × qp/q.
+-- The limit of a complete instrument in one formula: k + 4 × Δmin/Δ + n/100 × qp/q. Published rules print it so; docs/DECISIONS.md, "Error verdict",
+-- names them.
 abbrev pub formula : ℕ → ℕ → TestPoint → Fraction
 formula k n p = plus (plus (whole k) (times (whole 4) (difference_ratio p))) (times (hundredths n) (flow_ratio p))
 
