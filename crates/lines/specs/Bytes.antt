@@ -10,10 +10,11 @@ line_feed = 10
 abbrev pub comma : ℕ
 comma = 44
 
--- the digits 0 and 9; the others lie between them, in their order
+-- The digit 0.
 abbrev pub digit_zero : ℕ
 digit_zero = 48
 
+-- The digit 9. The others lie between the two, in their order.
 abbrev pub digit_nine : ℕ
 digit_nine = 57
 

@@ -74,10 +74,11 @@ all_numbers_of l = by l.line
     by (L.Sample s) = sample_numbers s
     by (L.End t) = totals_numbers t
 
--- Those that stand on it in its edition, and those that do not: of line E the totals that its edition lacks, of the other lines none.
+-- Those that stand on it in its edition.
 unfoldable pub numbers_of : EditionLine → List ℕ
 numbers_of l = take (count_of l.edition (kind_of l.line)) (all_numbers_of l)
 
+-- Those that do not: of line E the totals that its edition lacks, of the other lines none.
 unfoldable pub lacked_of : EditionLine → List ℕ
 lacked_of l = drop (count_of l.edition (kind_of l.line)) (all_numbers_of l)
 
@@ -94,10 +95,11 @@ text_of first numbers = first ++ (after_commas (map decimal numbers) ++ (line_fe
 unfoldable pub bytes_of : EditionLine → List ℕ
 bytes_of l = text_of (first_field (kind_of l.line)) (numbers_of l)
 
--- a line in an edition, and an edition's opening
+-- A line in an edition.
 abbrev pub in_edition : ℕ → Line → EditionLine
 in_edition e line = record { edition = e; line = line }
 
+-- An edition's opening.
 abbrev pub opening_in : ℕ → EditionLine
 opening_in e = in_edition e L.Opening
 
@@ -130,10 +132,11 @@ card_of ns = record {
   ps = get_or ns 11 0;
 }
 
--- the sample of the four numbers of a line S, and the totals of the numbers of line E; those that are not there, since the edition lacks them, are 0
+-- The sample of the four numbers of a line S.
 abbrev pub sample_from : List ℕ → Sample
 sample_from ns = record { pulses = get_or ns 0 0; seconds = get_or ns 1 0; supply_reading = get_or ns 2 0; return_reading = get_or ns 3 0 }
 
+-- The totals of the numbers of line E. Those that are not there, since the edition lacks them, are 0.
 abbrev pub totals_from : List ℕ → Totals
 totals_from ns = record {
   accepted = get_or ns 0 0;

@@ -17,10 +17,11 @@ decimal n = decimal_by n n
 abbrev pub most_digits64 : ℕ
 most_digits64 = 20
 
--- whether a byte is one of the ten digits, and whether all bytes are
+-- A byte is one of the ten digits.
 unfoldable pub is_digit : ℕ → Bool
 is_digit b = leb digit_zero b && leb b digit_nine
 
+-- All bytes are digits.
 unfoldable pub are_digits : List ℕ → Bool
 are_digits [] = true
 are_digits (b ∷ bs) = is_digit b && are_digits bs

@@ -23,11 +23,12 @@ same_bytes [] (y ∷ ys) = false
 same_bytes (x ∷ xs) [] = false
 same_bytes (x ∷ xs) (y ∷ ys) = eqb x y && same_bytes xs ys
 
--- The bytes before the first line feed, which are the line's, or all bytes where there is no line feed; and whether there is one.
+-- The bytes before the first line feed, which are the line's, or all bytes where there is no line feed.
 unfoldable pub until_end : List ℕ → List ℕ
 until_end [] = []
 until_end (b ∷ bs) = cond (eqb b line_feed) [] (b ∷ until_end bs)
 
+-- There is a line feed.
 unfoldable pub is_ended : List ℕ → Bool
 is_ended [] = false
 is_ended (b ∷ bs) = eqb b line_feed || is_ended bs
@@ -46,13 +47,15 @@ unfoldable pub split : List ℕ → List (List ℕ)
 split [] = [] ∷ []
 split (b ∷ bs) = cond (eqb b comma) ([] ∷ split bs) (with_first b (split bs))
 
--- the fields of the line at the front of the bytes; its first field, and those after it
+-- The fields of the line at the front of the bytes.
 unfoldable pub fields_in : List ℕ → List (List ℕ)
 fields_in bs = split (until_end bs)
 
+-- Its first field.
 abbrev pub first_in : List ℕ → List ℕ
 first_in bs = get_or (fields_in bs) 0 []
 
+-- The fields after the first.
 abbrev pub others_in : List ℕ → List (List ℕ)
 others_in bs = drop 1 (fields_in bs)
 

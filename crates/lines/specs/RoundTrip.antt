@@ -22,6 +22,7 @@ told_in e (L.Card c) = M.Card e
 told_in e (L.Sample s) = M.SampleOrEnd e
 told_in e (L.End t) = M.SampleOrEnd e
 
+-- The same, of a line with its edition.
 abbrev pub told_of : EditionLine → MayCome
 told_of l = told_in l.edition l.line
 

@@ -1,4 +1,4 @@
--- Water by IAPWS-IF97, the industrial formulation of 1997 in its revised release of 2007: region 1, which is liquid water. Its specific enthalpy
+-- Water by IAPWS-IF97, the Industrial Formulation 1997 (IAPWS release R7-97): region 1, which is liquid water. Its specific enthalpy
 -- and its specific volume follow from one function γ of pressure and temperature, a sum of 34 terms, by derivatives. Here they are exact fractions,
 -- at any pressure and temperature. The rows and both derivatives are also printed in OIML R 75-1, Annex A: Table 1, (A.5) and (A.3).
 -- docs/FORMAT.md, "Water", has rows and formulas too.
@@ -6,7 +6,7 @@ use Rattle.std.specs.Prelude.{ℕ, ◌^◌, List, [], ◌∷◌, ℤ, pos, neg_�
 use Rattle.std.proofs.Math.IntN.{pred_ℤ}
 use Rattle.water.specs.Signed.{SignedFraction, ◌per◌, integer, decimal_number, negated, ◌⊕◌, ◌⊖◌, ◌⊗◌, ◌⊘◌, power}
 
--- A row of Table 2 of the release: the exponents I and J and the coefficient n, which docs/FORMAT.md calls a.
+-- A row of the release's table of region 1: the exponents I and J and the coefficient n, which docs/FORMAT.md calls a.
 pub record Term : Type 0 where
   pub I : ℤ
   pub J : ℤ
@@ -60,24 +60,24 @@ terms =
     ∷ []
 
 -- Σ: a value for each row, added up over rows.
-abbrev pub sum : (Term → SignedFraction) → List Term → SignedFraction
-sum f [] = integer (pos 0)
-sum f (r ∷ rs) = f r ⊕ sum f rs
+abbrev pub sum_over : (Term → SignedFraction) → List Term → SignedFraction
+sum_over f [] = integer (pos 0)
+sum_over f (r ∷ rs) = f r ⊕ sum_over f rs
 
--- The dimensionless Gibbs free energy, equation (7) of the release: γ is Σ n (7.1 − π)^I (τ − 1.222)^J. π stands for the pressure and τ for the
+-- The dimensionless Gibbs free energy: γ is Σ n (7.1 − π)^I (τ − 1.222)^J. π stands for the pressure and τ for the
 -- temperature, as below.
 abbrev pub γ : SignedFraction → SignedFraction → SignedFraction
-γ π τ = sum (λ r. r.n ⊗ power (decimal_number 71 1 ⊖ π) r.I ⊗ power (τ ⊖ decimal_number 1222 3) r.J) terms
+γ π τ = sum_over (λ r. r.n ⊗ power (decimal_number 71 1 ⊖ π) r.I ⊗ power (τ ⊖ decimal_number 1222 3) r.J) terms
 
 -- Its derivative by τ, (A.5) of OIML R 75-1: Σ n (7.1 − π)^I J (τ − 1.222)^(J−1).
 abbrev pub γτ : SignedFraction → SignedFraction → SignedFraction
 γτ π τ =
-    sum (λ r. r.n ⊗ power (decimal_number 71 1 ⊖ π) r.I ⊗ integer r.J ⊗ power (τ ⊖ decimal_number 1222 3) (pred_ℤ r.J)) terms
+    sum_over (λ r. r.n ⊗ power (decimal_number 71 1 ⊖ π) r.I ⊗ integer r.J ⊗ power (τ ⊖ decimal_number 1222 3) (pred_ℤ r.J)) terms
 
 -- Its derivative by π, (A.3) of OIML R 75-1: Σ −n I (7.1 − π)^(I−1) (τ − 1.222)^J.
 abbrev pub γπ : SignedFraction → SignedFraction → SignedFraction
 γπ π τ =
-    sum (λ r. negated r.n ⊗ integer r.I ⊗ power (decimal_number 71 1 ⊖ π) (pred_ℤ r.I) ⊗ power (τ ⊖ decimal_number 1222 3) r.J) terms
+    sum_over (λ r. negated r.n ⊗ integer r.I ⊗ power (decimal_number 71 1 ⊖ π) (pred_ℤ r.I) ⊗ power (τ ⊖ decimal_number 1222 3) r.J) terms
 
 -- The specific gas constant of water, R, in J/(kg K): 461.526.
 abbrev pub R : SignedFraction

@@ -30,16 +30,19 @@ abbrev pub reciprocal : SignedFraction → SignedFraction
 reciprocal (pos n per d) = pos d per n
 reciprocal (negsuc n per d) = neg_ℤ (pos d) per suc n
 
--- Sum, difference, product and quotient.
+-- The sum.
 abbrev pub ◌⊕◌ : SignedFraction → SignedFraction → SignedFraction
 (m per d) ⊕ (n per e) = m *ℤ pos e +ℤ n *ℤ pos d per d * e
 
+-- The difference.
 abbrev pub ◌⊖◌ : SignedFraction → SignedFraction → SignedFraction
 x ⊖ y = x ⊕ negated y
 
+-- The product.
 abbrev pub ◌⊗◌ : SignedFraction → SignedFraction → SignedFraction
 (m per d) ⊗ (n per e) = m *ℤ n per d * e
 
+-- The quotient. By 0 it has no value.
 abbrev pub ◌⊘◌ : SignedFraction → SignedFraction → SignedFraction
 x ⊘ y = x ⊗ reciprocal y
 

@@ -35,7 +35,7 @@ abbrev entropy : SignedFraction → SignedFraction → SignedFraction
 entropy p T =
     R ⊗ (reduced_temperature T ⊗ γτ (reduced_pressure p) (reduced_temperature T) ⊖ γ (reduced_pressure p) (reduced_temperature T))
 
--- IAPWS-IF97, Table 5: v in m³/kg, h in kJ/kg and the specific entropy in kJ/(kg K), at 300 K and 3 MPa, 300 K and 80 MPa, 500 K and 3 MPa.
+-- IAPWS R7-97, Table 5: v in m³/kg, h in kJ/kg and the specific entropy in kJ/(kg K), at 300 K and 3 MPa, 300 K and 80 MPa, 500 K and 3 MPa.
 abbrev release : List Figure
 release =
     figure (volume (MPa 3) (K 300)) 100215168 11

@@ -31,6 +31,7 @@ unfoldable pub one_more : Option Number → Option Number
 one_more (Some x) = found x.value (x.size + 1)
 one_more None = None
 
+-- The number behind the comma at the front of the bytes, with the size of both; none where no comma stands there or no number follows it.
 unfoldable pub field_at : List ℕ → Option Number
 field_at [] = None
 field_at (b ∷ bs) = cond (eqb b comma) (one_more (number_at bs)) None
@@ -75,9 +76,11 @@ pub record Parted : Type 0 where
   pub shown : List ℕ
   pub lacked : List ℕ
 
+-- Numbers parted behind the first n.
 abbrev pub parted_at : ℕ → List ℕ → Parted
 parted_at n ns = record { shown = take n ns; lacked = drop n ns }
 
+-- The numbers of a line, parted by how many its kind has in its edition.
 abbrev pub numbers_parted : EditionLine → Parted
 numbers_parted line = parted_at (count_of line.edition (kind_of line.line)) (all_numbers_of line)
 
