@@ -12,10 +12,10 @@ use Rattle.std.specs.Prelude.{Result, Ok, Err}
 use Rattle.std.proofs.Common.{take_at}
 use Rattle.quantity.specs.Refusals.{number_of}
 use Rattle.quantity.specs.declared.refusal.Refusal.TheVariants.{InputSize}
+use Rattle.buffer.specs.Putting.{put_at}
 use Rattle.meter.specs.declared.state.Meter.{Meter}
 use Rattle.lines.specs.Bytes.{letter_r, letter_x}
 use Rattle.lines.specs.Line.{text_of}
-use Rattle.lines.specs.Writing.{put_at}
 use Rattle.lines.specs.Report.{report_text, output_of}
 use Rattle.lines.specs.Reading.{numbers_in}
 use Rattle.lines.specs.declared.line.RefusedAt.{RefusedAt}

@@ -5,8 +5,8 @@ use Rattle.std.specs.Prelude.{ltb}
 use Rattle.std.specs.Io.KnownBytes.{Appends, Consumes, IsAtEnd}
 use Rattle.std.specs.declared.option.Option.{Option}
 use borrow.Author.Tests.{lt-ltb, ltb-true, ltb-false}
+use Rattle.buffer.specs.Putting.{put_at}
 use Rattle.lines.specs.Report.{report_text, output_of}
-use Rattle.lines.specs.Writing.{put_at}
 use Rattle.lines.specs.declared.report.OutputLine.{OutputLine}
 use Rattle.archive.specs.Report.{audit_limit, report_of, line_of}
 

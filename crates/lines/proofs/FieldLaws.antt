@@ -11,11 +11,11 @@ use Rattle.std.proofs.Common.{Option, Some, None}
 use lib.ListN.{length, get_or, take, drop, length-append}
 use borrow.Author.Tests.{eq-eqb, ne_eqb, eqb-true}
 use Rattle.quantity.proofs.Conditions.{both}
+use Rattle.buffer.proofs.Lent.{rest_all}
 use Rattle.lines.specs.Bytes.{comma}
 use Rattle.lines.specs.Number.{decimal, is_digit, are_digits, value_of, is_number, most_digits}
 use Rattle.lines.specs.Inside.Parts.{found, digits_at, number_at, one_more, field_at}
 use Rattle.lines.specs.declared.number.Number.{Number}
-use Rattle.lines.proofs.Lent.{rest_all}
 use Rattle.lines.proofs.Decimals.{decimal_digits, decimal_is_number, value_decimal, number_decimal, number_small}
 
 -- ---- by the first byte

@@ -3,7 +3,6 @@ pub mod Decimals
 pub mod Exactness
 mod Faults
 mod FieldLaws
-mod Lent
 mod Letters
 pub mod LineBytes
 pub mod LineLaws
@@ -12,7 +11,6 @@ pub mod Openings
 pub mod Puts
 pub mod ReaderRows
 pub mod Reports
-mod Passed
 mod Runs
 mod Shown
 pub mod RoundTrips

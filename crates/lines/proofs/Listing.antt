@@ -1,9 +1,8 @@
 -- A line's numbers one after the other: how many bytes they take, whether one is too large, and their text as it is put together.
 -- Assumes nothing.
 use mathlib.Core.Path.{◌≡◌, refl, sym, ap, ◌∙◌, subst}
-use mathlib.Core.Bool.{Bool, ◌||◌}
-use lib.Dec.{leb}
-use Rattle.std.specs.List.{list_any, sum_by}
+use mathlib.Core.Bool.{◌||◌}
+use Rattle.std.specs.List.{sum_by}
 use Rattle.std.proofs.lemmas.List.Sums.{sum_by-cons}
 use mathlib.Core.List.{List, [], ◌∷◌, ◌++◌, append_assoc, append-nil, map}
 use Prim.Native.Nat.{ℕ, suc, ◌+◌, ◌-◌, ◌*◌, ◌^◌, ◌≤◌, ◌<◌}
@@ -11,13 +10,14 @@ use native.Mathlib.Omega.{arith}
 use native.Mathlib.Numerals.{add-one}
 use lib.ListN.{length, get_or, take, drop, set, length-append, drop_of_length-le}
 use lib.Seq.{drop-cons}
+use Rattle.buffer.specs.Front.{put_front}
+use Rattle.buffer.proofs.Puts.{Wrote, wrote_none, wrote_length, wrote_room, wrote_more, wrote_byte}
 use Rattle.lines.specs.Bytes.{line_feed, comma}
 use Rattle.lines.specs.Number.{decimal, most_digits64, some_long, some_nonzero}
 use Rattle.lines.specs.Line.{kind_of, first_field, numbers_of, lacked_of, after_commas, text_of, bytes_of}
-use Rattle.lines.specs.Inside.Parts.{Parted, numbers_parted, most_numbers, put_front}
+use Rattle.lines.specs.Inside.Parts.{Parted, numbers_parted, most_numbers}
 use Rattle.lines.specs.declared.line.EditionLine.{EditionLine}
 use Rattle.lines.proofs.Decimals.{decimal_short}
-use Rattle.lines.proofs.Puts.{Wrote, wrote_none, wrote_length, wrote_room, wrote_more, wrote_byte}
 
 -- ---- how many bytes
 

@@ -13,6 +13,7 @@ use Rattle.quantity.specs.Refusals.{row, first_of}
 use Rattle.quantity.specs.declared.refusal.Row.{Row}
 use Rattle.quantity.specs.declared.refusal.Refusal.TheVariants as R
 use Rattle.quantity.proofs.Rows.{parts}
+use Rattle.buffer.proofs.Lent.{rest_all}
 use Rattle.meter.specs.Edition.{is_other_edition}
 use Rattle.lines.specs.Bytes.{line_feed, comma, letter_c, letter_e, letter_s}
 use Rattle.lines.specs.Line.{LineKind, card, sample, totals, first_field, bytes_of, opening_in, in_edition, content_rows, opening_length, count_of, line_of}
@@ -22,7 +23,6 @@ use Rattle.lines.specs.declared.line.MayCome.{MayCome}
 use Rattle.lines.specs.declared.line.MayCome.TheVariants as M
 use Rattle.lines.proofs.Splitting.{split_parted}
 use Rattle.lines.proofs.LineBytes.{bytes_size}
-use Rattle.lines.proofs.Lent.{rest_all}
 use Rattle.lines.proofs.Openings.{opening_length_lem, opened_exactly}
 use Rattle.lines.proofs.Faults.{misshapen_first, first_of_lem}
 use Rattle.lines.proofs.Letters.{by_letter, other_first}

@@ -1,28 +1,28 @@
 -- The round trips: what is written is read back, what is read is what is written, and a line's bytes are its own.
 -- Assumes nothing.
 use Rattle.std.proofs.Common.{Result, Ok, Err}
+use Rattle.buffer.specs.Putting.{put_at, buffer_after}
+use Rattle.buffer.proofs.Puts.{put_from}
+use Rattle.buffer.proofs.Rows.{refused_for_buffer}
 use Rattle.lines.specs.declared.line.Front.{Front}
 use mathlib.Core.Path.{◌≡◌, refl, sym, ap, ◌∙◌, subst}
 use mathlib.Core.Bool.{Bool, true, false, cond}
 use mathlib.Core.List.{List, [], ◌∷◌, ◌++◌, map}
-use mathlib.Core.Logic.{◌⊎◌, inl, inr}
 use Prim.Native.Nat.{ℕ, ◌+◌, ◌-◌, ◌^◌, ◌≤◌, ◌<◌}
 use native.Mathlib.Omega.{arith}
-use lib.Dec.{eqb, ltb}
-use lib.ListN.{length, get_or, take, drop, length-append}
-use lib.Seq.{drop_at, take_at, length-take-le, drop-drop, drop-append_seam}
-use borrow.Author.Tests.{ltb-false, ltb-true, lt-leb}
+use lib.Dec.{eqb}
+use lib.ListN.{length, get_or, drop, length-append}
+use lib.Seq.{take_at, drop-drop, drop-append_seam}
+use borrow.Author.Tests.{lt-leb}
 use Rattle.quantity.specs.Refusals.{first_of, NoneApplies}
 use Rattle.quantity.specs.declared.refusal.Refusal.{Refusal}
-use Rattle.quantity.specs.declared.refusal.Refusal.TheVariants as R
-use Rattle.std.specs.Result.{result_and}
 use Rattle.quantity.proofs.Rows.{answered, parts, no_refusal, none_applies, none_of_parts}
 use Rattle.meter.specs.Edition.{is_other_edition}
 use Rattle.lines.specs.Bytes.{letter_c, letter_h, letter_s}
 use Rattle.lines.specs.Number.{decimal, most_digits, some_long}
 use Rattle.lines.specs.Line.{LineKind, opening, card, sample, totals, kind_of, first_field, all_numbers_of, numbers_of, lacked_of, text_of, bytes_of, opening_in, content_rows, count_of, line_of, opening_length}
 use Rattle.lines.specs.Reading.{front_of, same_bytes, size_of, fields_in, first_in, numbers_in, shape_rows, edition_in, due_kind, line_in, line_rows, later_rows, read_rows, read_of, rest_of}
-use Rattle.lines.specs.Writing.{Writable, write_rows, written_of, put_at, buffer_after}
+use Rattle.lines.specs.Writing.{Writable, own_rows, written_of}
 use Rattle.lines.specs.RoundTrip.{told_in, told_of, WritesBack}
 use Rattle.lines.specs.Theorems.{CanBeWritten, WrittenThenRead, ReadThenWritten, ReadWithin, OneLine}
 use Rattle.lines.specs.declared.line.Line.{Line}
@@ -35,7 +35,7 @@ use Rattle.lines.proofs.LineLaws.{line_of_lem, kind_line, numbers_line, line_lac
 use Rattle.lines.proofs.LineBytes.{line_bytes_lem, bytes_fields, bytes_numbers, bytes_size, bytes_shape}
 use Rattle.lines.proofs.Openings.{edition_most, opening_length_lem, opened_exactly}
 use Rattle.lines.proofs.ReaderRows.{opening_front, opening_sized, opening_read, by_due}
-use Rattle.lines.proofs.WriterRows.{unrefused, refused_place, by_text, text_room, writable_exactly}
+use Rattle.lines.proofs.WriterRows.{can_be_written, written_exactly, writable_exactly}
 
 -- ---- what is written is read back
 
@@ -81,21 +81,15 @@ reads_line l rest w = by l.edition l.line w
         let line : EditionLine = record { edition = e; line = L.End t } in
         reads_due (M.SampleOrEnd e) line rest refl (rw (first_read line rest)) refl w
 
--- the buffer from the position on, after a text was put there
-pub put_from : (buf : List ℕ) (at : ℕ) (text : List ℕ) → at ≤ length buf → drop at (put_at buf at text) ≡ text ++ drop (at + length text) buf
-unfolding put_at
-put_from buf at text h = drop_at (take at buf) (text ++ drop (at + length text) buf) at (length-take-le at buf h)
-
 pub written_then_read : WrittenThenRead
-unfolding written_of buffer_after rest_of
+unfolding buffer_after rest_of
 written_then_read buf at line next e =
-    let p = answered (first_of (write_rows (length buf) at line)) (at + length (bytes_of line)) next e in
-    let w = unrefused (length buf) at line p.0 in
-    let after : drop at (put_at buf at (bytes_of line)) ≡ bytes_of line ++ drop (at + length (bytes_of line)) buf = put_from buf at (bytes_of line) w.within in
-    let size : next - at ≡ length (bytes_of line) = omega (arith, p.1) in
-    let place : at + (next - at) ≡ next = omega (arith, p.1) in
+    let w = (written_exactly (length buf) at line (written_of (length buf) at line) refl next).0 e in
+    let after : drop at (put_at buf at (bytes_of line)) ≡ bytes_of line ++ drop (at + length (bytes_of line)) buf = put_from buf at (bytes_of line) (omega (arith, w.1.ends, w.1.room)) in
+    let size : next - at ≡ length (bytes_of line) = omega (arith, w.1.ends) in
+    let place : at + (next - at) ≡ next = omega (arith, w.1.ends) in
     let again : read_of (told_of line) (drop at (put_at buf at (bytes_of line))) ≡ front_of line (next - at) =
-    rw (after, size) (reads_line line (drop (at + length (bytes_of line)) buf) w.can) in
+    rw (after, size) (reads_line line (drop (at + length (bytes_of line)) buf) w.0) in
     record {
       answer = again;
       rest =
@@ -106,23 +100,6 @@ written_then_read buf at line next e =
 
 -- ---- what is read is what is written
 
--- the writer refuses a line that can be written only for the buffer's sake
-refused_place_or_room : (line : EditionLine) → CanBeWritten line → (size at : ℕ) (r : Refusal) → written_of size at line ≡ Err r → (r ≡ R.PlaceBeyond) ⊎ (r ≡ R.Room)
-unfolding written_of
-refused_place_or_room line w size at r e =
-    elim (ltb size at) as (λ t. ltb size at ≡ t → (r ≡ R.PlaceBeyond) ⊎ (r ≡ R.Room)) [
-      | true ↦ λ t. inl (number (first_of (write_rows size at line)) R.PlaceBeyond (refused_place size at line (ltb-true size at t)) e)
-      | false ↦ λ t. inr (room (ltb (size - at) (length (bytes_of line)))
-          (by_text size at line (ltb-false size at t) w.edition (no_refusal (content_rows line.line) w.content) ∙ text_room (size - at) line w))
-    ] refl
-  where
-    number : (o : Result Unit Refusal) (k : Refusal) → o ≡ Err k → result_and o (Ok (at + length (bytes_of line))) ≡ Err r → r ≡ k
-    number o k c d = let f : Err k ≡ Err r = rw c at d in sym (cc f)
-
-    room : (t : Bool) → first_of (write_rows size at line) ≡ cond t (Err R.Room) (Ok tt) → r ≡ R.Room
-    room true c = number (first_of (write_rows size at line)) R.Room c e
-    room false c = let f : Ok (at + length (bytes_of line)) ≡ Err r = rw c at e in absurd (let z : ◌≡◌ {A = ℕ} 0 1 = cc f in omega arith)
-
 -- the line that the bytes are
 writes_line : (may : MayCome) (bs : List ℕ) (line : EditionLine) → told_of line ≡ may → bs ≡ bytes_of line ++ drop (size_of bs) bs → CanBeWritten line
     → WritesBack may bs line (size_of bs)
@@ -132,7 +109,7 @@ writes_line may bs line t b w = record {
   bytes = sym b;
   takes = ap size_of b ∙ bytes_size line (drop (size_of bs) bs);
   writable = (writable_exactly line).1 w;
-  refused_only = refused_place_or_room line w;
+  refused_only = λ size at r e. refused_for_buffer size at (own_rows line) (bytes_of line) r ((can_be_written line).1 w) e;
 }
 
 -- after the row of the edition

@@ -1,6 +1,6 @@
 -- How a number is written: in decimal, with at most 18 digits, and with no 0 in front of others (docs/FORMAT.md, "Bytes, lines and numbers"). First
 -- the text of a number, then which texts are numbers, and of what value.
-use Rattle.std.specs.Prelude.{ℕ, zero, suc, ◌+◌, ◌-◌, ◌*◌, ◌/◌, ◌%◌, ◌^◌, Bool, true, false, not, cond, ◌&&◌, ◌||◌, List, [], ◌∷◌, ◌++◌, ltb, leb, eqb, length, get_or}
+use Rattle.std.specs.Prelude.{ℕ, zero, suc, ◌+◌, ◌-◌, ◌*◌, ◌/◌, ◌%◌, ◌^◌, Bool, true, not, cond, ◌&&◌, ◌||◌, List, [], ◌∷◌, ◌++◌, ltb, leb, eqb, length, get_or}
 use Rattle.std.specs.List.{list_any}
 use Rattle.lines.specs.Bytes.{digit_zero, digit_nine}
 

@@ -1,10 +1,10 @@
 -- The line that the audit program prints (docs/OPERATIONS.md, "The audit and the program"): for an accepted file the letter R and what the file ends
 -- with, for a refused one the letter X, the refusal's number and the line of the file. Commas and line feed stand in it as in a file's lines.
 use Rattle.std.specs.Prelude.{ℕ, ◌+◌, ◌*◌, List, [], ◌∷◌, length, replicate}
+use Rattle.buffer.specs.Putting.{put_at}
 use Rattle.lines.specs.Bytes.{letter_r, letter_x}
 use Rattle.lines.specs.Number.{most_digits64}
 use Rattle.lines.specs.Line.{text_of}
-use Rattle.lines.specs.Writing.{put_at}
 use Rattle.lines.specs.declared.report.OutputLine.{OutputLine}
 use Rattle.lines.specs.declared.report.Report.{Report}
 use Rattle.lines.specs.declared.report.Report.TheVariants as R

@@ -4,12 +4,14 @@
 use Rattle.std.specs.Prelude.{◌≡◌, false, List, ◌∷◌, [], ◌++◌, ◌↔◌, ℕ, ◌+◌, ◌≤◌, length, Result, Ok, Err, IfOk}
 use Rattle.quantity.specs.Refusals.{NoneApplies}
 use Rattle.quantity.specs.declared.refusal.Refusal.{Refusal}
+use Rattle.buffer.specs.Putting.{buffer_after}
+use Rattle.buffer.specs.Theorems.{Fits}
 use Rattle.meter.specs.Edition.{is_other_edition}
 use Rattle.lines.specs.Bytes.{line_feed, comma, digit_zero, archive_word}
 use Rattle.lines.specs.Number.{some_long, some_nonzero}
 use Rattle.lines.specs.Line.{numbers_of, lacked_of, bytes_of, opening_in, opening_length, content_rows}
 use Rattle.lines.specs.Reading.{front_of, read_of}
-use Rattle.lines.specs.Writing.{written_of, buffer_after}
+use Rattle.lines.specs.Writing.{written_of}
 use Rattle.lines.specs.RoundTrip.{ReadsBack, WritesBack, Cause}
 use Rattle.lines.specs.declared.line.EditionLine.{EditionLine}
 use Rattle.lines.specs.declared.line.Front.{Front}
@@ -26,15 +28,9 @@ pub record CanBeWritten (line : EditionLine) : Type 0 where
   pub short : some_long (numbers_of line) ≡ false
   pub lacked_zero : some_nonzero (lacked_of line) ≡ false
 
--- And it has room: from the position at on its bytes end at next, which is not beyond the buffer.
-pub record Fits (size at : ℕ) (line : EditionLine) (next : ℕ) : Type 0 where
-  pub can : CanBeWritten line
-  pub ends : next ≡ at + length (bytes_of line)
-  pub room : next ≤ size
-
 -- The writer answers the position next exactly where the line can be written and fits in up to there.
 abbrev pub WrittenExactly : ℕ → ℕ → EditionLine → Result ℕ Refusal → Type 0
-WrittenExactly size at line answer = (next : ℕ) → (answer ≡ Ok next) ↔ Fits size at line next
+WrittenExactly size at line answer = (next : ℕ) → (answer ≡ Ok next) ↔ (CanBeWritten line × Fits size at (length (bytes_of line)) next)
 
 -- The reader gives a refusal exactly where that refusal's own condition is the first that holds.
 abbrev pub RefusedExactly : MayCome → List ℕ → Result Front Refusal → Type 0

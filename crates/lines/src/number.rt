@@ -1,8 +1,9 @@
 // One number of a line, read and written: 1 to 18 digits, with no 0 in front of others (docs/FORMAT.md, "Bytes, lines and numbers").
 ghost use Rattle.std.specs.Prelude.{◌≡◌, ◌++◌, ◌∷◌, ◌+◌, ◌≤◌, length, drop};
+ghost use Rattle.buffer.specs.Front.{put_front};
 ghost use Rattle.lines.specs.Bytes.{comma};
 ghost use Rattle.lines.specs.Number.{decimal, most_digits64};
-ghost use Rattle.lines.specs.Inside.Parts.{Digits, number_at, field_at, last_digits, put_front};
+ghost use Rattle.lines.specs.Inside.Parts.{Digits, number_at, field_at, last_digits};
 
 // The most digits of a number.
 const MOST_DIGITS: usize = 18;

@@ -1,10 +1,10 @@
 // The openings, each edition's first line. Each is a constant, whose bytes reader and writer have in common.
 ghost use Rattle.std.specs.Prelude.{◌≡◌, false, ◌≤◌, length};
+ghost use Rattle.buffer.specs.Front.{put_front};
 ghost use Rattle.meter.specs.Edition.{last_edition, is_other_edition};
 ghost use Rattle.lines.specs.Bytes.{archive_word};
 ghost use Rattle.lines.specs.Reading.{opened_up_to};
 ghost use Rattle.lines.specs.Line.{bytes_of, opening_in};
-ghost use Rattle.lines.specs.Inside.Parts.{put_front};
 
 use meter::LAST_EDITION;
 

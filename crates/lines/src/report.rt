@@ -71,7 +71,7 @@ pub fn report_line(report: Report) -> OutputLine
 }
 
 // The printed line of a first field and numbers.
-#[tactic(auto, using(crate::proofs::Reports::line_within, crate::proofs::Puts::front_at), unfolding(crate::specs::Report::output_of))]
+#[tactic(auto, using(crate::proofs::Reports::line_within, buffer::proofs::Puts::front_at), unfolding(crate::specs::Report::output_of))]
 fn output_of(first: &[u8], numbers: &[u64]) -> OutputLine
     requires { (length first.now ≤ 1) × (length numbers.now ≤ most_reported) }
     ensures answer { result ≡ output_of (text_of first.now numbers.now) }

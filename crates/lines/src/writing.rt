@@ -1,17 +1,20 @@
 // The writer of one line. All conditions are looked at before the first byte is written, so that a refused line leaves the buffer as it was.
 ghost use Rattle.std.specs.Prelude.{◌≡◌, false, ◌||◌, map, ◌≤◌, length};
 ghost use Rattle.quantity.specs.Refusals.{first_number, first_of, refusal_number};
+ghost use Rattle.buffer.specs.Putting.{buffer_after};
+ghost use Rattle.buffer.specs.Front.{put_front};
 ghost use Rattle.meter.specs.Edition.{is_other_edition};
 ghost use Rattle.lines.specs.Number.{decimal, some_long, some_nonzero};
 ghost use Rattle.lines.specs.Line.{after_commas, text_of, bytes_of, content_rows};
-ghost use Rattle.lines.specs.Inside.Parts.{most_numbers, put_front};
-ghost use Rattle.lines.specs.Writing.{text_rows, write_rows, written_of, buffer_after};
+ghost use Rattle.lines.specs.Inside.Parts.{most_numbers};
+ghost use Rattle.lines.specs.Writing.{own_rows, write_rows, written_of};
 ghost use Rattle.lines.specs.Theorems.{WrittenExactly};
 
 use crate::line::{EditionLine, Line};
 use crate::listed::{Listed, fields_length, first_field, has_from, numbers_of};
 use crate::number::{LEAST_LONG, put_field};
 use crate::opening::put_opening;
+use buffer::put_refusal;
 use meter::is_other_edition;
 use quantity::{Refusal, first_refusal};
 
@@ -19,28 +22,25 @@ use quantity::{Refusal, first_refusal};
 /// Refusals, in this order, which leave buf as it was: 67 if at is above the length of buf; 60 if the edition is none; 10 to 18 if a card is not
 /// allowed; 62 if a number has over 18 digits, or a total that the edition lacks is not 0; 66 if there are fewer bytes from at on than the line has
 /// (docs/OPERATIONS.md, "One line: reading and writing").
-#[tactic(auto, using(crate::proofs::WriterRows::unrefused), unfolding(crate::specs::Writing::written_of, crate::specs::Writing::buffer_after))]
+#[tactic(auto, unfolding(buffer::specs::Putting::put_of, buffer::specs::Putting::buffer_after))]
 pub fn write_line(buf: &mut [u8], at: usize, what: EditionLine) -> Result<usize, Refusal>
     ensures answer { result ≡ written_of (length buf.old) at what }
     ensures buffer { buf.new ≡ buffer_after buf.old at (bytes_of what) result }
     ensures number { refusal_number result ≡ first_number (write_rows (length buf.old) at what) }
     ensures written_exactly { WrittenExactly (length buf.old) at what result }
 {
-    write_refusal(buf.len(), at, what)?;
+    put_refusal(buf.len(), at, own_refusal(what), line_length(what))?;
     Ok(at + put_line(&mut buf[at..], what))
 }
 
-// The writer's conditions in order, for a buffer of size bytes. 67 comes before the subtraction, which so cannot pass below 0.
+// What refuses a line wherever it is to be written, in order: 60; what refuses a card; 62.
 #[tactic(auto, using(crate::proofs::WriterRows::stages))]
-fn write_refusal(size: usize, at: usize, what: EditionLine) -> Result<(), Refusal>
-    ensures { result ≡ first_of (write_rows size at what) }
+fn own_refusal(what: EditionLine) -> Result<(), Refusal>
+    ensures { result ≡ first_of (own_rows what) }
 {
-    first_refusal(&[
-        Refusal::PlaceBeyond.when(size < at),
-        Refusal::Edition.when(is_other_edition(what.edition)),
-    ])?;
+    first_refusal(&[Refusal::Edition.when(is_other_edition(what.edition))])?;
     content_refusal(what.line)?;
-    text_refusal(size - at, what)
+    first_refusal(&[Refusal::Number.when(has_refused_number(&numbers_of(what)))])
 }
 
 // A card's own conditions, 10 to 18. Another line has none on what it says.
@@ -54,16 +54,12 @@ fn content_refusal(line: Line) -> Result<(), Refusal>
     }
 }
 
-// The conditions on a line's text, 62 and 66, where room bytes are left from the position on.
-fn text_refusal(room: usize, what: EditionLine) -> Result<(), Refusal>
-    ensures { result ≡ first_of (text_rows room what) }
+// How many bytes a line takes.
+fn line_length(what: EditionLine) -> usize
+    ensures { result ≡ length (bytes_of what) }
 {
     let listed = numbers_of(what);
-    let size = text_length(first_field(what.line), listed.shown());
-    first_refusal(&[
-        Refusal::Number.when(has_refused_number(&listed)),
-        Refusal::Room.when(room < size),
-    ])
+    text_length(first_field(what.line), listed.shown())
 }
 
 // How many bytes the first field, the numbers and the line feed take.

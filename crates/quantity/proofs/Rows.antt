@@ -1,4 +1,4 @@
--- Laws of `first_of`: how code takes the rows, what it means that none applies, and rows in two parts.
+-- Laws of `first_of`: how code takes the rows, what it means that none applies, and rows in two parts; and a refusal that a `?` passes on.
 -- Assumes nothing.
 use mathlib.Core.Path.{◌≡◌, refl, sym, ap, ◌∙◌, subst}
 use Rattle.std.proofs.Common.{length, get_or, drop}
@@ -7,7 +7,8 @@ use Rattle.std.proofs.lemmas.List.{at_drop_more, at_drop_all}
 use mathlib.Core.Bool.{Bool, true, false, cond}
 use Prim.Native.Nat.{ℕ, ◌+◌, ◌<◌, ◌≤◌}
 use Rattle.std.specs.Prelude.{Result, Ok, Err}
-use Rattle.std.specs.Result.{result_and}
+use Rattle.std.specs.Result.{result_and, IsErrAnd}
+use Rattle.std.proofs.lemmas.Result.{err_from_is_err_and}
 use Rattle.quantity.specs.Refusals.{number_of, refusal_number, first_of, first_number, NoneApplies}
 use Rattle.quantity.specs.Theorems.{RefusesNothing}
 use Rattle.quantity.specs.declared.refusal.Refusal.{Refusal}
@@ -118,3 +119,7 @@ row_passes rs i d h e = rw (at_drop_more first_of rs i d h) (rw e refl)
 pub rows_end : (rs : List Row) (i : ℕ) → length rs ≤ i → Ok tt ≡ first_of (drop i rs)
 unfolding first_of
 rows_end rs i h = rw (at_drop_all first_of rs i h) refl
+
+-- a refusal that is passed on by a `?`
+pub passed_on : {T : Type 0} (r : Result T Refusal) (e : Refusal) → IsErrAnd r (λ y. y ≡ e) → r ≡ Err e
+passed_on r e h = let p = err_from_is_err_and r h in p.1 ∙ ap (λ (y : Refusal). Err y) p.2

@@ -63,10 +63,6 @@ unfoldable pub last_digits : ℕ → ℕ → List ℕ
 last_digits zero n = []
 last_digits (suc k) n = last_digits k (n / 10) ++ ((digit_zero + n % 10) ∷ [])
 
--- a part of a buffer with a text put over its front
-abbrev pub put_front : List ℕ → List ℕ → List ℕ
-put_front part text = text ++ drop (length text) part
-
 -- the most numbers of any line: the card's line has them
 abbrev pub most_numbers : ℕ
 most_numbers = card_fields

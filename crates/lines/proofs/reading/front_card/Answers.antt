@@ -3,7 +3,7 @@ use Rattle.std.proofs.Common.{◌∙◌, sym}
 use Rattle.lines.specs.Line.{card, count_of, content_rows}
 use Rattle.lines.proofs.Letters.{none_after, read_after, refused_after}
 use Rattle.lines.proofs.LineLaws.{card_line}
-use Rattle.lines.proofs.Passed.{passed_on}
+use Rattle.quantity.proofs.Rows.{passed_on}
 use Rattle.lines.proofs.reading.front_card.Goals as goal
 
 pub returns-in_err-size : goal.returns-in_err-size

@@ -6,7 +6,7 @@ use Rattle.lines.specs.declared.line.Line.TheVariants as L
 use Rattle.lines.specs.Line.{totals, content_rows, line_of}
 use Rattle.lines.specs.Inside.Parts.{most_later}
 use Rattle.lines.proofs.Letters.{padded, none_after, read_after}
-use Rattle.lines.proofs.Passed.{passed_on}
+use Rattle.quantity.proofs.Rows.{passed_on}
 use Rattle.lines.proofs.Shown.{zeros_left}
 use Rattle.lines.proofs.reading.front_end.Goals as goal
 

@@ -4,7 +4,7 @@ use Rattle.quantity.specs.Refusals.{first_of}
 use Rattle.lines.specs.Line.{sample, count_of, content_rows}
 use Rattle.lines.proofs.Letters.{none_after, read_after}
 use Rattle.lines.proofs.LineLaws.{sample_line}
-use Rattle.lines.proofs.Passed.{passed_on}
+use Rattle.quantity.proofs.Rows.{passed_on}
 use Rattle.lines.proofs.reading.front_sample.Goals as goal
 
 pub returns-in_err-size : goal.returns-in_err-size
