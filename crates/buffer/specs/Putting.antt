@@ -1,5 +1,5 @@
 -- A text that is put at a position of a lent buffer, counted from 0: what refuses it, what is answered, and what each byte is afterwards. The lines of a
--- file are such texts. What refuses the text itself, wherever it is to be put, are its own rows.
+-- file and readouts are such texts. What refuses the text itself, wherever it is to be put, are its own rows.
 use Rattle.std.specs.Prelude.{◌≡◌, ℕ, ◌+◌, ◌-◌, List, [], ◌∷◌, ◌++◌, true, ltb, length, take, drop, Result, Ok, Err}
 use Rattle.std.specs.Result.{result_and}
 use Rattle.quantity.specs.Refusals.{row, first_of}

@@ -52,7 +52,10 @@ numbered n =
     cond (eqb n 70) R.SupplyAboveRange (
     cond (eqb n 71) R.ReturnAboveRange (
     cond (eqb n 72) R.OneEditionAlone (
-    R.Profile))))))))))))))))))))))))))))))))))))))))
+    cond (eqb n 73) R.Profile (
+    cond (eqb n 74) R.ReadoutNumber (
+    cond (eqb n 75) R.ReadoutShape (
+    R.ReadoutDigit)))))))))))))))))))))))))))))))))))))))))))
 
 given_back : (p : Refusal) → numbered (number_of p) ≡ p
 unfolding number_of numbered
@@ -97,6 +100,9 @@ given_back R.SupplyAboveRange = refl
 given_back R.ReturnAboveRange = refl
 given_back R.OneEditionAlone = refl
 given_back R.Profile = refl
+given_back R.ReadoutNumber = refl
+given_back R.ReadoutShape = refl
+given_back R.ReadoutDigit = refl
 
 pub numbers_differ : NumbersDiffer
 numbers_differ p q e = sym (given_back p) ∙ ap numbered e ∙ given_back q

@@ -50,6 +50,9 @@ number_of R.SupplyAboveRange = 70
 number_of R.ReturnAboveRange = 71
 number_of R.OneEditionAlone = 72
 number_of R.Profile = 73
+number_of R.ReadoutNumber = 74
+number_of R.ReadoutShape = 75
+number_of R.ReadoutDigit = 76
 
 -- A row: a refusal, and the condition under which it is given.
 abbrev pub row : Refusal → Bool → Row

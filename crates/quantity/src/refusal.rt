@@ -96,10 +96,16 @@ pub enum Refusal {
     OneEditionAlone = 72,
     /// 73: the index of the quarter of an hour is above 95, or one of the 96 cells of the day is above 999999999999999999 mJ.
     Profile = 73,
+    /// 74: the heat in whole kWh or the volume in whole litres is above 99999999, which a readout's eight digits cannot say.
+    ReadoutNumber = 74,
+    /// 75: a readout to be read has not exactly twelve bytes, or one of its two records does not begin with its two bytes of EN 13757-3.
+    ReadoutShape = 75,
+    /// 76: a digit of a readout to be read is above nine.
+    ReadoutDigit = 76,
 }
 
 impl Refusal {
-    /// The number of this refusal, from 10 to 73. It is a method and no `From`, so that each place that takes the number says so.
+    /// The number of this refusal, from 10 to 76. It is a method and no `From`, so that each place that takes the number says so.
     #[tactic(auto, unfolding(crate::specs::Refusals::number_of))]
     pub fn number(self) -> u64
         ensures { result ≡ number_of self }
