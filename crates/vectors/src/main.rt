@@ -11,6 +11,7 @@ mod laws;
 mod meters;
 mod profiles;
 mod readers;
+mod readouts;
 mod temperatures;
 mod text;
 mod verdicts;
@@ -77,6 +78,8 @@ fn operate(out: &mut impl Write, line: &[u8]) -> Result<(), Unanswered> {
         [b'N', ..] => archives::of_zeros(out, line)?,
         [b'L', ..] => writers::of_values(out, line)?,
         [b'E', ..] => conversions::of_file(out, line)?,
+        [b'B', ..] => readouts::of_values(out, line)?,
+        [b'Y', ..] => readouts::of_bytes(out, line)?,
         _ => {}
     }
     Ok(())

@@ -3,6 +3,7 @@ use crate::answers::put_refusal;
 use crate::text::numbers;
 use lines::{EditionLine, Line, Totals};
 use meter::{Card, Sample};
+use quantity::Refusal;
 use std::io;
 use std::io::Write;
 
@@ -21,23 +22,22 @@ pub(crate) fn of_values(out: &mut impl Write, line: &[u8]) -> io::Result<()> {
         line: content,
     };
     let mut space = [b'.'; 96];
-    put_next(out, &mut space, lent as usize, at as usize, what)?;
+    if let Some(buf) = last_bytes(&mut space, lent as usize) {
+        put_position(out, lines::write_line(buf, at as usize, what))?;
+    }
     out.write_all(b",")?;
     out.write_all(&space)
 }
 
-// No answer where the space has fewer bytes than are to be lent.
-fn put_next(
-    out: &mut impl Write,
-    space: &mut [u8],
-    lent: usize,
-    at: usize,
-    what: EditionLine,
-) -> io::Result<()> {
-    let Some(start) = space.len().checked_sub(lent) else {
-        return Ok(());
-    };
-    match lines::write_line(&mut space[start..], at, what) {
+// As many of a space's last bytes as are to be lent; none, and so no answer, where it has fewer.
+pub(crate) fn last_bytes(space: &mut [u8], lent: usize) -> Option<&mut [u8]> {
+    let start = space.len().checked_sub(lent)?;
+    space.get_mut(start..)
+}
+
+// The position that a writer answered, or X and the refusal.
+pub(crate) fn put_position(out: &mut impl Write, next: Result<usize, Refusal>) -> io::Result<()> {
+    match next {
         Ok(next) => write!(out, ",{next}"),
         Err(refusal) => put_refusal(out, refusal),
     }
