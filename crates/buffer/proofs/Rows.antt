@@ -77,6 +77,17 @@ put_exactly size at own text next = (forth, back)
         ap (λ (o : Result Unit Refusal). result_and o (Ok (at + length text))) (none_refuses size at own (length text) f.0 room)
         ∙ ap (λ (n : ℕ). Ok n) (sym f.1.ends)
 
+-- LAW, for the writer of a text that answers x: by what it means that its own rows refuse nothing (P), and by how many bytes it has (n)
+pub put_exactly_where : (size at : ℕ) (own : List Row) (text : List ℕ) (n : ℕ) (P : Type 0) → length text ≡ n → (NoneApplies own ↔ P) →
+    (x : Result ℕ Refusal) → x ≡ put_of size at own text → (next : ℕ) → (x ≡ Ok next) ↔ (P × Fits size at n next)
+put_exactly_where size at own text n P l means x e next =
+    let p = put_exactly size at own text next in (
+      λ f.
+          let q = p.0 (sym e ∙ f) in
+          (means.0 q.0, record { ends = q.1.ends ∙ ap (λ (k : ℕ). at + k) l; room = q.1.room }),
+      λ q. e ∙ p.1 (means.1 q.0, record { ends = q.1.ends ∙ ap (λ (k : ℕ). at + k) (sym l); room = q.1.room }),
+    )
+
 -- room for its bytes from the front on is enough
 pub can_be_put_exactly : (own : List Row) (text : List ℕ) → CanBePut own text ↔ NoneApplies own
 can_be_put_exactly own text = (
@@ -101,10 +112,11 @@ refused_for_buffer size at own text r n e =
     by false true e = inr (sym (cc e))
     by false false e = absurd cc
 
--- the number that is given is that of the rows
-pub put_number : (size at : ℕ) (own : List Row) (text : List ℕ) → refusal_number (put_of size at own text) ≡ first_number (put_rows size at own (length text))
+-- and the number that it gives is that of the rows
+pub put_number : (size at : ℕ) (own : List Row) (text : List ℕ) (x : Result ℕ Refusal) → x ≡ put_of size at own text →
+    refusal_number x ≡ first_number (put_rows size at own (length text))
 unfolding put_of
-put_number size at own text = number_of_rows (put_rows size at own (length text)) (at + length text)
+put_number size at own text x e = ap refusal_number e ∙ number_of_rows (put_rows size at own (length text)) (at + length text)
 
 -- an answer as rows answers the same
 pub as_rows_lem : (own : Result Unit Refusal) → own ≡ first_of (as_rows own)

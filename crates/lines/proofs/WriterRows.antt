@@ -1,11 +1,12 @@
 -- The writer's rows: what refuses a line itself by stages, and which lines can be written.
 -- Assumes nothing.
 use Rattle.std.proofs.Common.{Result, Ok, Err}
-use mathlib.Core.Path.{◌≡◌, sym, ap, ◌∙◌}
+use mathlib.Core.Path.{◌≡◌, refl, sym, ap, ◌∙◌}
 use Rattle.std.specs.Prelude.{◌↔◌}
 use mathlib.Core.Bool.{◌||◌}
 use mathlib.Core.List.{List, [], ◌∷◌, ◌++◌}
 use Prim.Native.Nat.{ℕ}
+use lib.ListN.{length}
 use Rattle.std.specs.Result.{result_and}
 use Rattle.quantity.specs.Refusals.{row, first_of, refusal_number, first_number, NoneApplies}
 use Rattle.quantity.specs.declared.refusal.Refusal.{Refusal}
@@ -13,7 +14,7 @@ use Rattle.quantity.specs.declared.refusal.Refusal.TheVariants as R
 use Rattle.quantity.specs.declared.refusal.Row.{Row}
 use Rattle.quantity.proofs.Rows.{parts, none_of_parts, none_together}
 use Rattle.quantity.proofs.Conditions.{neither}
-use Rattle.buffer.proofs.Rows.{put_exactly, can_be_put_exactly, put_number}
+use Rattle.buffer.proofs.Rows.{put_exactly_where, can_be_put_exactly, put_number}
 use Rattle.meter.specs.Edition.{is_other_edition}
 use Rattle.lines.specs.Number.{some_long, some_nonzero}
 use Rattle.lines.specs.Line.{numbers_of, lacked_of, bytes_of, content_rows}
@@ -60,11 +61,8 @@ pub ruleset stages = (first_stage, second_stage, third_stage)
 
 -- LAW: a line is written so far exactly where it can be written and fits
 pub written_exactly : (size at : ℕ) (line : EditionLine) (x : Result ℕ Refusal) → x ≡ written_of size at line → WrittenExactly size at line x
-written_exactly size at line x e next =
-    let p = put_exactly size at (own_rows line) (bytes_of line) next in (
-      λ f. let q = p.0 (sym e ∙ f) in ((can_be_written line).0 q.0, q.1),
-      λ q. e ∙ p.1 ((can_be_written line).1 q.0, q.1),
-    )
+written_exactly size at line =
+    put_exactly_where size at (own_rows line) (bytes_of line) (length (bytes_of line)) (CanBeWritten line) refl (can_be_written line)
 
 -- room for its bytes from the front on is enough
 pub writable_exactly : (line : EditionLine) → Writable line ↔ CanBeWritten line
@@ -74,4 +72,4 @@ writable_exactly line =
 
 -- and the number that is given is that of the rows
 pub write_number : (size at : ℕ) (line : EditionLine) (x : Result ℕ Refusal) → x ≡ written_of size at line → refusal_number x ≡ first_number (write_rows size at line)
-write_number size at line x e = ap refusal_number e ∙ put_number size at (own_rows line) (bytes_of line)
+write_number size at line = put_number size at (own_rows line) (bytes_of line)

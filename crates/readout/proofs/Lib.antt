@@ -1,5 +1,5 @@
 -- Laws and theorems about readouts.
-pub mod PackedDecimal
+mod PackedDecimal
 mod PackedLoops
-pub mod Bytes
-pub mod Written
+mod Bytes
+mod Written

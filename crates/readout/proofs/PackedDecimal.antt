@@ -9,7 +9,7 @@ use native.Mathlib.Numerals.{add-one}
 use native.Mathlib.Nat.{pow-suc}
 use Rattle.std.proofs.Math.Nat.{div-div-eq-div-mul}
 use lib.Dec.{ltb}
-use lib.ListN.{length, get_or}
+use lib.ListN.{length}
 use borrow.Author.Tests.{ltb-false, le-ltb}
 use Rattle.std.proofs.lemmas.Bool.{or_parts, or_from}
 use Rattle.readout.specs.Packed.{digits_in, some_above_nine, sum_from, number_of_digits, digits_from, lowest_digits, paired, packed, unpacked}
@@ -123,12 +123,6 @@ packed_step n x =
 pub packed_length : (n x : ℕ) → length (packed n x) ≡ n
 packed_length zero x = rw packed_none
 packed_length (suc n) x = rw packed_step (ap (λ m. suc m) (packed_length n (x / 100)))
-
--- each of them is a byte
-pub packed_bytes : (n x i : ℕ) → get_or (packed n x) i 0 < 256
-packed_bytes zero x i = rw packed_none (omega arith)
-packed_bytes (suc n) x zero = rw packed_step (omega arith)
-packed_bytes (suc n) x (suc i) = rw packed_step (packed_bytes n (x / 100) i)
 
 -- n bytes of a number hold its 2 × n lowest digits
 pub packed_digits : (n x : ℕ) → digits_in (packed n x) ≡ lowest_digits (2 * n) x

@@ -2,7 +2,7 @@
 -- Assumes nothing.
 use Rattle.std.proofs.Common.{Result, Ok, Err, Option, Some, None}
 use mathlib.Core.Path.{◌≡◌, refl, sym, ap, ◌∙◌, subst}
-use mathlib.Core.Bool.{Bool, true, false, not, ◌&&◌, ◌||◌, or-true, cond}
+use mathlib.Core.Bool.{Bool, true, false, not, ◌||◌, or-true, cond}
 use mathlib.Core.List.{List, [], ◌∷◌, ◌++◌}
 use Prim.Native.Nat.{ℕ, ◌-◌, ◌*◌, ◌/◌, ◌≤◌}
 use native.Mathlib.Omega.{arith}
@@ -16,7 +16,7 @@ use Rattle.quantity.specs.declared.refusal.Refusal.{Refusal}
 use Rattle.quantity.specs.declared.refusal.Refusal.TheVariants as R
 use Rattle.quantity.proofs.Conditions.{neither, both}
 use Rattle.quantity.proofs.Rows.{answered, none_applies, number_of_rows}
-use Rattle.buffer.proofs.Rows.{put_exactly, can_be_put_exactly, put_number}
+use Rattle.buffer.proofs.Rows.{put_exactly_where, can_be_put_exactly, put_number}
 use Rattle.readout.specs.Packed.{digits_in, some_above_nine, packed, unpacked}
 use Rattle.readout.specs.Records.{eight_digits, energy_in_kwh, volume_in_litres, number_length, record_of, readout_of, readout_length, whole_of, largest_number}
 use Rattle.readout.specs.Writing.{own_rows, write_rows, written_of}
@@ -39,48 +39,45 @@ own_none r = (
 )
 
 pub written_exactly : (size at heat volume : ℕ) (x : Result ℕ Refusal) → x ≡ written_of size at heat volume → WrittenExactly size at heat volume x
-written_exactly size at heat volume x e next =
-    let r : WholeUnits = whole_of heat volume in
-    let p = put_exactly size at (own_rows r) (readout_of r) next in
-    let l : length (readout_of r) ≡ readout_length = readout_length_lem r in (
-      λ f.
-          let q = p.0 (sym e ∙ f) in
-          ((own_none r).0 q.0, record { ends = q.1.ends ∙ omega (arith, l); room = q.1.room }),
-      λ q. e ∙ p.1 ((own_none r).1 q.0, record { ends = q.1.ends ∙ omega (arith, l); room = q.1.room }),
-    )
+written_exactly size at heat volume =
+    let w : WholeUnits = whole_of heat volume in
+    put_exactly_where size at (own_rows w) (readout_of w) readout_length (AtMostEightDigits w) (readout_length_lem w) (own_none w)
 
 pub write_number : (size at heat volume : ℕ) (x : Result ℕ Refusal) → x ≡ written_of size at heat volume → refusal_number x ≡ first_number (write_rows size at heat volume)
-write_number size at heat volume x e = ap refusal_number e ∙ put_number size at (own_rows (whole_of heat volume)) (readout_of (whole_of heat volume))
+write_number size at heat volume = put_number size at (own_rows (whole_of heat volume)) (readout_of (whole_of heat volume))
 
 -- ---- the reader
 
--- the shape says how many bytes there are, and what stands at four places
-module _ (bs : List ℕ) (h : has_shape bs ≡ true) where
-  abbrev fields : Bool
-  fields = stands bs 0 eight_digits && (stands bs 1 energy_in_kwh && (stands bs 6 eight_digits && stands bs 7 volume_in_litres))
+-- what the shape says: how many bytes there are, and what stands at four places
+record Shaped (bs : List ℕ) : Type 0 where
+  pub count : length bs ≡ readout_length
+  pub energy_dif : get_or bs 0 0 ≡ eight_digits
+  pub energy_vif : get_or bs 1 0 ≡ energy_in_kwh
+  pub volume_dif : get_or bs 6 0 ≡ eight_digits
+  pub volume_vif : get_or bs 7 0 ≡ volume_in_litres
 
-  stand : (length bs ≡ readout_length) × (get_or bs 0 0 ≡ eight_digits) × (get_or bs 1 0 ≡ energy_in_kwh) × (get_or bs 6 0 ≡ eight_digits) × (get_or bs 7 0 ≡ volume_in_litres)
-  unfolding has_shape
-  stand =
-      let p = both (eqb (length bs) readout_length) fields h in
-      let q = both (stands bs 0 eight_digits) (stands bs 1 energy_in_kwh && (stands bs 6 eight_digits && stands bs 7 volume_in_litres)) p.1 in
-      let r = both (stands bs 1 energy_in_kwh) (stands bs 6 eight_digits && stands bs 7 volume_in_litres) q.1 in
-      let t = both (stands bs 6 eight_digits) (stands bs 7 volume_in_litres) r.1 in (
-        eqb-true (length bs) readout_length p.0,
-        eqb-true (get_or bs 0 0) eight_digits q.0,
-        eqb-true (get_or bs 1 0) energy_in_kwh r.0,
-        eqb-true (get_or bs 6 0) eight_digits t.0,
-        eqb-true (get_or bs 7 0) volume_in_litres t.1,
-      )
+shaped : (bs : List ℕ) → has_shape bs ≡ true → Shaped bs
+unfolding has_shape
+shaped bs h =
+    let p = both (eqb (length bs) readout_length) _ h in
+    let q = both (stands bs 0 eight_digits) _ p.1 in
+    let r = both (stands bs 1 energy_in_kwh) _ q.1 in
+    let t = both (stands bs 6 eight_digits) (stands bs 7 volume_in_litres) r.1 in
+    record {
+      count = eqb-true (length bs) readout_length p.0;
+      energy_dif = eqb-true (get_or bs 0 0) eight_digits q.0;
+      energy_vif = eqb-true (get_or bs 1 0) energy_in_kwh r.0;
+      volume_dif = eqb-true (get_or bs 6 0) eight_digits t.0;
+      volume_vif = eqb-true (get_or bs 7 0) volume_in_litres t.1;
+    }
 
-  pub twelve : length bs ≡ readout_length
-  twelve = stand.0
+pub twelve : (bs : List ℕ) → has_shape bs ≡ true → length bs ≡ readout_length
+twelve bs h = (shaped bs h).count
 
 -- such bytes are the two records' fields with four bytes behind each
-twelve_bytes : (bs : List ℕ) → (length bs ≡ readout_length) × (get_or bs 0 0 ≡ eight_digits) × (get_or bs 1 0 ≡ energy_in_kwh) × (get_or bs 6 0 ≡ eight_digits) × (get_or bs 7 0 ≡ volume_in_litres) →
-    bs ≡ (eight_digits ∷ energy_in_kwh ∷ energy_bytes bs) ++ (eight_digits ∷ volume_in_litres ∷ volume_bytes bs)
-twelve_bytes (b0 ∷ b1 ∷ b2 ∷ b3 ∷ b4 ∷ b5 ∷ b6 ∷ b7 ∷ b8 ∷ b9 ∷ b10 ∷ b11 ∷ []) h = rw (h.1, h.2, h.3, h.4) refl
-twelve_bytes bs h = absurd (omega (arith, h.0))
+twelve_bytes : (bs : List ℕ) → Shaped bs → bs ≡ (eight_digits ∷ energy_in_kwh ∷ energy_bytes bs) ++ (eight_digits ∷ volume_in_litres ∷ volume_bytes bs)
+twelve_bytes (b0 ∷ b1 ∷ b2 ∷ b3 ∷ b4 ∷ b5 ∷ b6 ∷ b7 ∷ b8 ∷ b9 ∷ b10 ∷ b11 ∷ []) s = rw (s.energy_dif, s.energy_vif, s.volume_dif, s.volume_vif) refl
+twelve_bytes bs s = absurd (omega (arith, s.count))
 
 -- what the rows make of bytes
 pub misshapen : (bs : List ℕ) → has_shape bs ≡ false → Err R.ReadoutShape ≡ read_of bs
@@ -178,9 +175,9 @@ readout_read : (bs : List ℕ) (r : WholeUnits) → read_of bs ≡ Ok r → AtMo
 unfolding readout_of record_of
 readout_read bs r e =
     let u = unrefused bs r e in
-    let s = stand bs u.0 in
-    let energy_four : length (energy_bytes bs) ≡ number_length = length-take-le number_length (drop 2 bs) (omega (arith, s.0, length-drop 2 bs)) in
-    let volume_four : length (volume_bytes bs) ≡ number_length = length-take-le number_length (drop 8 bs) (omega (arith, s.0, length-drop 8 bs)) in
+    let s = shaped bs u.0 in
+    let energy_four : length (energy_bytes bs) ≡ number_length = length-take-le number_length (drop 2 bs) (omega (arith, s.count, length-drop 2 bs)) in
+    let volume_four : length (volume_bytes bs) ≡ number_length = length-take-le number_length (drop 8 bs) (omega (arith, s.count, length-drop 8 bs)) in
     let energy_below : unpacked (energy_bytes bs) ≤ largest_number = omega (arith, rw energy_four at (unpacked_below (energy_bytes bs) u.1)) in
     let volume_below : unpacked (volume_bytes bs) ≤ largest_number = omega (arith, rw volume_four at (unpacked_below (volume_bytes bs) u.2)) in
     let energy_is = packed_unpacked number_length (energy_bytes bs) energy_four u.1 in
