@@ -35,21 +35,18 @@ impl Measurement {
         requires limits { AcceptedLimits self.usable.meter self.sample }
         ensures { result ≡ accepting self.usable.meter self.sample }
     {
-        let m = Meter {
-            volume: self.usable.meter.volume + self.volume,
-            accepted: self.usable.meter.accepted + 1,
-            kept_seconds: self.usable.meter.kept_seconds + self.kept_seconds(),
-            ..self.usable.meter
+        let m = self.usable.meter;
+        let (heat_register, cold_register) = match self.own_register() {
+            Register::Heat => (m.heat_register + heat, m.cold_register),
+            Register::Cold => (m.heat_register, m.cold_register + heat),
         };
-        match self.own_register() {
-            Register::Heat => Meter {
-                heat_register: m.heat_register + heat,
-                ..m
-            },
-            Register::Cold => Meter {
-                cold_register: m.cold_register + heat,
-                ..m
-            },
+        Meter {
+            heat_register,
+            cold_register,
+            volume: m.volume + self.volume,
+            accepted: m.accepted + 1,
+            kept_seconds: m.kept_seconds + self.kept_seconds(),
+            ..m
         }
     }
 }
