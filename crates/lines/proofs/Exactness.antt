@@ -6,16 +6,17 @@ use mathlib.Core.Bool.{Bool, true, false, cond, not, ◌&&◌, and-true}
 use mathlib.Core.List.{List}
 use Prim.Native.Nat.{ℕ}
 use native.Mathlib.Omega.{arith}
-use Rattle.quantity.specs.Refusals.{first_of, refusal_number, first_number}
+use Rattle.quantity.specs.Refusals.{number_of, first_of, refusal_number, first_number}
 use Rattle.quantity.specs.declared.refusal.Refusal.{Refusal}
 use Rattle.quantity.specs.declared.refusal.Refusal.TheVariants as R
 use Rattle.quantity.proofs.Rows.{number_of_rows}
 use Rattle.meter.specs.Edition.{is_other_edition}
 use Rattle.meter.specs.Card.{card_rows}
-use Rattle.lines.specs.Line.{sample, totals, first_field, count_of, card_of, line_of, content_rows}
+use Rattle.meter.proofs.Accepted.{number_at_16}
+use Rattle.lines.specs.Line.{sample, totals, first_field, count_of, card_at, card_of, line_of, content_rows}
 use Rattle.lines.specs.Reading.{same_bytes, size_of, first_in, others_in, numbers_in, are_numbers, shape_rows, edition_in, due_kind, line_in, line_rows, later_rows, read_rows, answer_of, read_of}
 use Rattle.lines.specs.RoundTrip.{is_no_line, is_misshapen_due, Cause, other_edition, misshapen, no_number, card_row}
-use Rattle.lines.specs.Theorems.{RefusedExactly}
+use Rattle.lines.specs.Theorems.{RefusedExactly, NeverForPressure}
 use Rattle.lines.specs.declared.line.EditionLine.{EditionLine}
 use Rattle.lines.specs.declared.line.MayCome.{MayCome}
 use Rattle.lines.specs.declared.line.Front.{Front}
@@ -121,6 +122,17 @@ refused_exactly may bs x e r = (
   λ f. cause bs may r (which _ _ _ _ r (sym (due_rows bs may) ∙ of_rows (line_in may bs) (size_of bs) r (first_of (read_rows may bs)) (sym e ∙ f))),
   λ c. e ∙ rows_of (line_in may bs) (size_of bs) r (first_of (read_rows may bs)) (due_rows bs may ∙ refusal bs may r c),
 )
+
+-- none is the card's pressure
+pub never_for_pressure : (may : MayCome) (bs : List ℕ) (x : Result Front Refusal) → x ≡ read_of may bs → NeverForPressure x
+unfolding number_of card_at
+never_for_pressure may bs x e f = other may _ ((refused_exactly may bs x e R.Pressure).0 f) refl
+  where
+    other : (may : MayCome) (r : Refusal) → Cause bs may r → r ≡ R.Pressure → ⊥
+    other may r (other_edition o) q = omega (arith, ap number_of q)
+    other may r (misshapen o m) q = omega (arith, ap number_of q)
+    other may r (no_number k o m n) q = omega (arith, ap number_of q)
+    other may r (card_row e k o m n h) q = omega (arith, ap number_of q, number_at_16 _ refl k h)
 
 -- and the number that is given is that of the rows
 pub read_number : (may : MayCome) (bs : List ℕ) (x : Result Front Refusal) → x ≡ read_of may bs → refusal_number x ≡ first_number (read_rows may bs)

@@ -15,7 +15,7 @@ use Rattle.quantity.proofs.Rows.{parts}
 use Rattle.std.specs.Result.{result_and}
 use Rattle.lines.specs.Bytes.{line_feed, comma}
 use Rattle.lines.specs.Number.{value_of}
-use Rattle.lines.specs.Line.{LineKind, opening, card, sample, totals, first_field, in_edition, content_rows, count_of, card_of, line_of}
+use Rattle.lines.specs.Line.{LineKind, opening, card, sample, totals, first_field, in_edition, content_rows, count_of, card_at, line_of}
 use Rattle.lines.specs.Reading.{front_of, same_bytes, until_end, is_ended, size_of, with_first, split, fields_in, first_in, others_in, numbers_in, is_misshapen, shape_rows, line_rows, answer_of}
 use Rattle.lines.specs.Inside.Parts.{NumbersRead, all_read, line_refused, after_letter}
 use Rattle.lines.specs.declared.line.Line.{Line}
@@ -85,7 +85,7 @@ other_first e k b after c h =
 
 -- zeros after a line's numbers change nothing
 pub padded : (k : LineKind) (ns zs : List ℕ) → AreZero zs → line_of k (ns ++ zs) ≡ line_of k ns
-unfolding line_of card_of
+unfolding line_of card_at
 padded opening ns zs z = refl
 padded card ns zs z = simp (zero_after ns zs z)
 padded sample ns zs z = simp (zero_after ns zs z)

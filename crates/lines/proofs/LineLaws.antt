@@ -2,11 +2,13 @@
 -- Assumes nothing.
 use mathlib.Core.Path.{◌≡◌, refl, sym, ap, ◌∙◌}
 use mathlib.Core.Bool.{Bool, true, false, cond}
-use mathlib.Core.List.{List, [], ◌∷◌}
+use mathlib.Core.List.{List, [], ◌∷◌, ◌++◌}
 use Prim.Native.Nat.{ℕ, ◌≤◌}
 use native.Mathlib.Omega.{arith}
+use lib.Dec.{eqb}
 use lib.ListN.{length, get_or, take}
 use lib.Seq.{length-take-le}
+use borrow.Author.Tests.{eqb-true, not-false}
 use Rattle.meter.specs.Edition.{keeps_seconds, counts_cold}
 use Rattle.meter.specs.Card.{fields_of}
 use Rattle.meter.specs.declared.card.Card.{Card}
@@ -14,8 +16,9 @@ use Rattle.meter.specs.Sample.{sample_numbers}
 use Rattle.meter.specs.declared.sample.Sample.{Sample}
 use Rattle.meter.proofs.Elements.{all as all-elements}
 use Rattle.lines.specs.Number.{some_nonzero}
-use Rattle.lines.specs.Line.{LineKind, opening, card, sample, totals, totals_fields, kind_of, first_field, all_numbers_of, numbers_of, lacked_of, count_of, in_edition, card_of, sample_from, line_of}
+use Rattle.lines.specs.Line.{LineKind, opening, card, sample, totals, card_line_fields, file_pressure, totals_fields, kind_of, first_field, all_numbers_of, numbers_of, lacked_of, count_of, in_edition, has_other_pressure, card_at, sample_from, line_of}
 use Rattle.lines.specs.Inside.Parts.{most_later}
+use Rattle.lines.specs.Theorems.{TellsAll}
 use Rattle.lines.specs.declared.line.Line.{Line}
 use Rattle.lines.specs.declared.line.Line.TheVariants as L
 use Rattle.lines.specs.declared.line.EditionLine.{EditionLine}
@@ -23,14 +26,17 @@ use Rattle.lines.proofs.Shape.{Plain}
 use Rattle.lines.proofs.Shown.{as_shown, shown_first}
 use Rattle.lines.proofs.Splitting.{lacks}
 
-pub card_of_lem : (c : Card) → card_of (fields_of c) ≡ c
-unfolding card_of fields_of
-card_of_lem c = refl
+-- the same card with that pressure named
+pub at_file_pressure : (c : Card) → has_other_pressure (L.Card c) ≡ false → c ≡ card_at (fields_of c) file_pressure
+unfolding has_other_pressure card_at fields_of
+at_file_pressure c h = ap (card_at (fields_of c)) (eqb-true c.pressure file_pressure (not-false (eqb c.pressure file_pressure) h))
 
--- the line of a card's fields
-pub card_line : (c : Card) (ns : List ℕ) → fields_of c ≡ ns → L.Card c ≡ line_of card ns
-unfolding line_of
-card_line c ns e = ap L.Card (sym (ap card_of (sym e) ∙ card_of_lem c))
+-- the line of a card whose fields are the numbers of line C and that pressure
+pub card_line : (c : Card) (ns : List ℕ) → length ns ≡ card_line_fields → fields_of c ≡ ns ++ (file_pressure ∷ []) → L.Card c ≡ line_of card ns
+unfolding line_of card_at fields_of
+card_line c ns n e =
+    ap (λ (l : List ℕ). L.Card (card_at l (get_or l card_line_fields 0)))
+    (e ∙ ap (λ (l : List ℕ). l ++ (file_pressure ∷ [])) (sym (all-elements ns card_line_fields n)))
 
 -- the line of a sample's numbers
 pub sample_line : (s : Sample) (ns : List ℕ) → sample_numbers s ≡ ns → L.Sample s ≡ line_of sample ns
@@ -47,18 +53,18 @@ totals_few e = by (counts_cold e) (keeps_seconds e)
     by false true = omega arith
     by false false = omega arith
 
--- LAW: the line of a line's kind and numbers is that line, where the fields that its edition lacks are zero
-pub line_of_lem : (line : EditionLine) → some_nonzero (lacked_of line) ≡ false → line_of (kind_of line.line) (numbers_of line) ≡ line.line
-unfolding line_of kind_of count_of all_numbers_of numbers_of lacked_of card_of fields_of sample_numbers
+-- LAW: the line of a line's kind and numbers is that line, where its bytes tell all of it
+pub line_of_lem : (line : EditionLine) → TellsAll line → line_of (kind_of line.line) (numbers_of line) ≡ line.line
+unfolding line_of kind_of count_of all_numbers_of numbers_of lacked_of has_other_pressure card_at fields_of sample_numbers
 line_of_lem l h = by l.edition l.line h
   where
-    by : (e : ℕ) (line : Line) → some_nonzero (lacked_of (in_edition e line)) ≡ false → line_of (kind_of line) (numbers_of (in_edition e line)) ≡ line
+    by : (e : ℕ) (line : Line) → TellsAll (in_edition e line) → line_of (kind_of line) (numbers_of (in_edition e line)) ≡ line
     by e L.Opening h = refl
-    by e (L.Card c) h = refl
+    by e (L.Card c) h = ap L.Card (sym (at_file_pressure c h.pressure))
     by e (L.Sample s) h = refl
     by e (L.End t) h =
         let all = all_numbers_of (in_edition e (L.End t)) in
-        let same : (i : ℕ) → get_or (take (count_of e totals) all) i 0 ≡ get_or all i 0 = λ i. as_shown (count_of e totals) all i h in
+        let same : (i : ℕ) → get_or (take (count_of e totals) all) i 0 ≡ get_or all i 0 = λ i. as_shown (count_of e totals) all i h.lacked_zero in
         λ j.
         L.End
         (record {
@@ -96,19 +102,19 @@ totals_line e ns c = shown_first ns 0 (count_of e totals) most_later (omega arit
 
 -- LAW: the numbers of the line of a kind are those that it was made of. The opening's is its edition.
 pub numbers_line : (e : ℕ) (k : LineKind) (ns : List ℕ) → (k ≡ opening → ns ≡ e ∷ []) → length ns ≡ count_of e k → numbers_of (in_edition e (line_of k ns)) ≡ ns
-unfolding numbers_of all_numbers_of kind_of line_of count_of card_of fields_of sample_numbers
+unfolding numbers_of all_numbers_of kind_of line_of count_of card_at fields_of sample_numbers
 numbers_line e opening ns h c = sym (h refl)
 numbers_line e card ns h c = all-elements ns (count_of e card) c
 numbers_line e sample ns h c = all-elements ns (count_of e sample) c
 numbers_line e totals ns h c = (totals_line e ns c).0
 
--- and the fields that the edition lacks are zero
-pub line_lacked_zero : (e : ℕ) (k : LineKind) (ns : List ℕ) → length ns ≡ count_of e k → some_nonzero (lacked_of (in_edition e (line_of k ns))) ≡ false
-unfolding lacked_of all_numbers_of kind_of line_of count_of card_of fields_of sample_numbers
-line_lacked_zero e opening ns c = refl
-line_lacked_zero e card ns c = refl
-line_lacked_zero e sample ns c = refl
-line_lacked_zero e totals ns c = (totals_line e ns c).1
+-- and its bytes tell all of it
+pub line_tells_all : (e : ℕ) (k : LineKind) (ns : List ℕ) → length ns ≡ count_of e k → TellsAll (in_edition e (line_of k ns))
+unfolding lacked_of has_other_pressure all_numbers_of kind_of line_of count_of card_at fields_of sample_numbers
+line_tells_all e opening ns c = record { lacked_zero = refl; pressure = refl }
+line_tells_all e card ns c = record { lacked_zero = refl; pressure = refl }
+line_tells_all e sample ns c = record { lacked_zero = refl; pressure = refl }
+line_tells_all e totals ns c = record { lacked_zero = (totals_line e ns c).1; pressure = refl }
 
 pub plain : (k : LineKind) → Plain (first_field k)
 unfolding first_field lacks

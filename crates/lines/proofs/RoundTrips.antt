@@ -20,7 +20,7 @@ use Rattle.quantity.proofs.Rows.{answered, parts, no_refusal, none_applies, none
 use Rattle.meter.specs.Edition.{is_other_edition}
 use Rattle.lines.specs.Bytes.{letter_c, letter_h, letter_s}
 use Rattle.lines.specs.Number.{decimal, most_digits, some_long}
-use Rattle.lines.specs.Line.{LineKind, opening, card, sample, totals, kind_of, first_field, all_numbers_of, numbers_of, lacked_of, text_of, bytes_of, opening_in, content_rows, count_of, line_of, opening_length}
+use Rattle.lines.specs.Line.{LineKind, opening, card, sample, totals, kind_of, first_field, all_numbers_of, numbers_of, lacked_of, text_of, bytes_of, opening_in, content_rows, has_other_pressure, count_of, line_of, opening_length}
 use Rattle.lines.specs.Reading.{front_of, same_bytes, size_of, fields_in, first_in, numbers_in, shape_rows, edition_in, due_kind, line_in, line_rows, later_rows, read_rows, read_of, rest_of}
 use Rattle.lines.specs.Writing.{Writable, own_rows, written_of}
 use Rattle.lines.specs.RoundTrip.{told_in, told_of, WritesBack}
@@ -31,7 +31,7 @@ use Rattle.lines.specs.declared.line.EditionLine.{EditionLine}
 use Rattle.lines.specs.declared.line.MayCome.{MayCome}
 use Rattle.lines.specs.declared.line.MayCome.TheVariants as M
 use Rattle.lines.proofs.Shape.{line_bytes, shape_forth}
-use Rattle.lines.proofs.LineLaws.{line_of_lem, kind_line, numbers_line, line_lacked_zero}
+use Rattle.lines.proofs.LineLaws.{line_of_lem, kind_line, numbers_line, line_tells_all}
 use Rattle.lines.proofs.LineBytes.{line_bytes_lem, bytes_fields, bytes_numbers, bytes_size, bytes_shape}
 use Rattle.lines.proofs.Openings.{edition_most, opening_length_lem, opened_exactly}
 use Rattle.lines.proofs.ReaderRows.{opening_front, opening_sized, opening_read, by_due}
@@ -55,7 +55,7 @@ module _ (may : MayCome) (line : EditionLine) (rest : List ℕ) where
   unfolding line_rows
   reads_due p d later w =
       let k : LineKind = kind_of line.line in
-      let same : line_of k (numbers_in bs) ≡ line.line = ap (line_of k) (bytes_numbers line rest) ∙ line_of_lem line w.lacked_zero in
+      let same : line_of k (numbers_in bs) ≡ line.line = ap (line_of k) (bytes_numbers line rest) ∙ line_of_lem line w.tells_all in
       let rows : first_of (shape_rows (first_field k) (count_of line.edition k) bs ++ content_rows (line_of k (numbers_in bs))) ≡ Ok tt =
       parts (shape_rows (first_field k) (count_of line.edition k) bs) (content_rows (line_of k (numbers_in bs)))
       ∙ rw (bytes_shape line rest w.short, same) (no_refusal (content_rows line.line) w.content) in
@@ -119,10 +119,10 @@ rows_after may bs e = none_applies (read_rows may bs) e
 
 -- an edition's opening can be written
 opening_can : (e : ℕ) → is_other_edition e ≡ false → CanBeWritten (opening_in e)
-unfolding content_rows kind_of count_of all_numbers_of numbers_of lacked_of
+unfolding content_rows has_other_pressure kind_of count_of all_numbers_of numbers_of lacked_of
 opening_can e o =
     let small : e < 10 ^ most_digits = omega (arith, edition_most e o) in
-    record { edition = o; content = tt; short = simp (lt-leb (10 ^ most_digits) e small); lacked_zero = refl }
+    record { edition = o; content = tt; short = simp (lt-leb (10 ^ most_digits) e small); tells_all = record { lacked_zero = refl; pressure = refl } }
 
 pub opening_writable : (e : ℕ) → is_other_edition e ≡ false → Writable (opening_in e)
 opening_writable e o = (writable_exactly (opening_in e)).1 (opening_can e o)
@@ -149,7 +149,7 @@ writes_due may e bs k other t o h =
     ∙ ap (λ (ns : List ℕ). line_bytes (first_field k) ns rest) numbers
     ∙ sym l.bytes in
     writes_line may bs line t (sym same)
-    (record { edition = o; content = n.1; short = ap some_long numbers ∙ l.short; lacked_zero = line_lacked_zero e k (numbers_in bs) l.counted })
+    (record { edition = o; content = n.1; short = ap some_long numbers ∙ l.short; tells_all = line_tells_all e k (numbers_in bs) l.counted })
 
 writes_later : (e : ℕ) (bs : List ℕ) (t : Bool) → is_other_edition e ≡ false → NoneApplies (line_rows e (cond t totals sample) bs)
     → WritesBack (M.SampleOrEnd e) bs (record { edition = e; line = line_of (cond t totals sample) (numbers_in bs) }) (size_of bs)

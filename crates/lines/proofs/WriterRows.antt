@@ -17,24 +17,25 @@ use Rattle.quantity.proofs.Conditions.{neither}
 use Rattle.buffer.proofs.Rows.{put_exactly_where, can_be_put_exactly, put_number}
 use Rattle.meter.specs.Edition.{is_other_edition}
 use Rattle.lines.specs.Number.{some_long, some_nonzero}
-use Rattle.lines.specs.Line.{numbers_of, lacked_of, bytes_of, content_rows}
+use Rattle.lines.specs.Line.{numbers_of, lacked_of, bytes_of, content_rows, has_other_pressure}
 use Rattle.lines.specs.Writing.{own_rows, write_rows, written_of, Writable}
 use Rattle.lines.specs.Theorems.{CanBeWritten, WrittenExactly}
 use Rattle.lines.specs.declared.line.EditionLine.{EditionLine}
 
 module _ (line : EditionLine) where
-  -- by stages: the edition, the content, the numbers
+  -- by stages: the edition, the content, what the bytes cannot tell
   abbrev pub before_content : Result Unit Refusal
   before_content = first_of (row R.Edition (is_other_edition line.edition) ∷ [])
 
-  abbrev pub number_row : List Row
-  number_row = row R.Number (some_long (numbers_of line) || some_nonzero (lacked_of line)) ∷ []
+  abbrev pub after_content : List Row
+  after_content =
+      row R.FilePressure (has_other_pressure line.line) ∷ row R.Number (some_long (numbers_of line) || some_nonzero (lacked_of line)) ∷ []
 
-  in_stages : first_of (own_rows line) ≡ result_and before_content (result_and (first_of (content_rows line.line)) (first_of number_row))
+  in_stages : first_of (own_rows line) ≡ result_and before_content (result_and (first_of (content_rows line.line)) (first_of after_content))
   unfolding own_rows
   in_stages =
-      parts (row R.Edition (is_other_edition line.edition) ∷ []) (content_rows line.line ++ number_row)
-      ∙ ap (result_and before_content) (parts (content_rows line.line) number_row)
+      parts (row R.Edition (is_other_edition line.edition) ∷ []) (content_rows line.line ++ after_content)
+      ∙ ap (result_and before_content) (parts (content_rows line.line) after_content)
 
   pub first_stage : (r : Refusal) → before_content ≡ Err r → Err r ≡ first_of (own_rows line)
   first_stage r e = sym (in_stages ∙ rw e)
@@ -42,7 +43,7 @@ module _ (line : EditionLine) where
   pub second_stage : before_content ≡ Ok tt → (r : Refusal) → first_of (content_rows line.line) ≡ Err r → Err r ≡ first_of (own_rows line)
   second_stage f r e = sym (in_stages ∙ rw (f, e))
 
-  pub third_stage : before_content ≡ Ok tt → first_of (content_rows line.line) ≡ Ok tt → first_of number_row ≡ first_of (own_rows line)
+  pub third_stage : before_content ≡ Ok tt → first_of (content_rows line.line) ≡ Ok tt → first_of after_content ≡ first_of (own_rows line)
   third_stage f e = sym (in_stages ∙ rw (f, e))
 
   -- no row of its own applies exactly where it can be written
@@ -50,10 +51,11 @@ module _ (line : EditionLine) where
   unfolding own_rows
   can_be_written = (
     λ n.
-        let p = none_of_parts (content_rows line.line) number_row n.1 in
-        let fit = neither (some_long (numbers_of line)) (some_nonzero (lacked_of line)) p.1.0 in
-        record { edition = n.0; content = p.0; short = fit.0; lacked_zero = fit.1 },
-    λ c. (c.edition, none_together (content_rows line.line) number_row c.content (simp (c.short, c.lacked_zero), tt)),
+        let p = none_of_parts (content_rows line.line) after_content n.1 in
+        let fit = neither (some_long (numbers_of line)) (some_nonzero (lacked_of line)) p.1.1.0 in
+        record { edition = n.0; content = p.0; short = fit.0; tells_all = record { lacked_zero = fit.1; pressure = p.1.0 } },
+    λ c.
+        (c.edition, none_together (content_rows line.line) after_content c.content (c.tells_all.pressure, (simp (c.short, c.tells_all.lacked_zero), tt))),
   )
 
 -- for `own_refusal`

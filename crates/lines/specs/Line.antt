@@ -1,9 +1,9 @@
 -- The lines of a file and their bytes (docs/FORMAT.md, "Bytes, lines and numbers" and the sections on the lines C, S and E). A line has a first
 -- field, then its numbers, each behind a comma, and then a line feed. Each line stands in an edition, which decides how many totals line E has.
-use Rattle.std.specs.Prelude.{ℕ, cond, List, [], ◌∷◌, ◌++◌, map, get_or, take, drop}
+use Rattle.std.specs.Prelude.{ℕ, Bool, false, not, cond, eqb, List, [], ◌∷◌, ◌++◌, map, get_or, take, drop}
 use Rattle.quantity.specs.declared.refusal.Row.{Row}
 use Rattle.meter.specs.Edition.{keeps_seconds, counts_cold}
-use Rattle.meter.specs.Card.{fields_of, card_fields, card_rows}
+use Rattle.meter.specs.Card.{fields_of, card_rows}
 use Rattle.meter.specs.Sample.{sample_numbers, sample_fields}
 use Rattle.meter.specs.declared.card.Card.{Card}
 use Rattle.meter.specs.declared.sample.Sample.{Sample}
@@ -36,6 +36,14 @@ first_field card = letter_c ∷ []
 first_field sample = letter_s ∷ []
 first_field totals = letter_e ∷ []
 
+-- How many of the card's numbers stand on line C: all but the last, the pressure.
+abbrev pub card_line_fields : ℕ
+card_line_fields = 12
+
+-- The pressure of every meter that a file tells of, in bar: line C has no field for it.
+abbrev pub file_pressure : ℕ
+file_pressure = 16
+
 -- how many totals line E has in the newest edition; none has more
 abbrev pub totals_fields : ℕ
 totals_fields = 6
@@ -44,7 +52,7 @@ totals_fields = 6
 -- where the edition keeps them, and a sixth, the cold register, where it counts cold.
 unfoldable pub count_of : ℕ → LineKind → ℕ
 count_of e opening = 1
-count_of e card = card_fields
+count_of e card = card_line_fields
 count_of e sample = sample_fields
 count_of e totals = cond (counts_cold e) totals_fields (cond (keeps_seconds e) 5 4)
 
@@ -63,14 +71,14 @@ totals_of m = record {
 abbrev pub totals_numbers : Totals → List ℕ
 totals_numbers t = t.accepted ∷ t.refused ∷ t.heat_register ∷ t.volume ∷ t.kept_seconds ∷ t.cold_register ∷ []
 
--- All numbers that a line can have, in their order: the opening its edition, line C the card's, a line S the sample's, and line E all six totals,
--- also those that its edition lacks.
+-- All numbers that a line can have, in their order: the opening its edition, line C the card's but for the pressure, a line S the sample's, and
+-- line E all six totals, also those that its edition lacks.
 unfoldable pub all_numbers_of : EditionLine → List ℕ
 all_numbers_of l = by l.line
   where
     by : Line → List ℕ
     by L.Opening = l.edition ∷ []
-    by (L.Card c) = fields_of c
+    by (L.Card c) = take card_line_fields (fields_of c)
     by (L.Sample s) = sample_numbers s
     by (L.End t) = totals_numbers t
 
@@ -103,21 +111,28 @@ in_edition e line = record { edition = e; line = line }
 abbrev pub opening_in : ℕ → EditionLine
 opening_in e = in_edition e L.Opening
 
--- The rows on what a line says, for reader and writer alike, a row being a refusal with its condition. A card is refused by its own, 10 to 18. A
--- sample may be any four numbers, and the totals may be any: only the audit can tell whether they are right.
+-- The rows on what a line says, for reader and writer alike, a row being a refusal with its condition. A card is refused by its own, 10 to 18 and
+-- 77. A sample may be any four numbers, and the totals may be any: only the audit can tell whether they are right.
 unfoldable pub content_rows : Line → List Row
 content_rows L.Opening = []
 content_rows (L.Card c) = card_rows c
 content_rows (L.Sample s) = []
 content_rows (L.End t) = []
 
+-- Whether a line has a card of another pressure than that of every file, which its bytes do not tell.
+unfoldable pub has_other_pressure : Line → Bool
+has_other_pressure L.Opening = false
+has_other_pressure (L.Card c) = not (eqb c.pressure file_pressure)
+has_other_pressure (L.Sample s) = false
+has_other_pressure (L.End t) = false
+
 -- how many bytes an opening has in each edition, its line feed among them
 abbrev pub opening_length : ℕ
 opening_length = 14
 
--- the card of a list of twelve numbers in the order of line C; one that is not there is taken for 0
-unfoldable pub card_of : List ℕ → Card
-card_of ns = record {
+-- The card of the twelve numbers of line C and a pressure in bar. A number that is not there is taken for 0.
+unfoldable pub card_at : List ℕ → ℕ → Card
+card_at ns pressure = record {
   serial = get_or ns 0 0;
   place = get_or ns 1 0;
   sensor = get_or ns 2 0;
@@ -130,7 +145,12 @@ card_of ns = record {
   qp = get_or ns 9 0;
   qs = get_or ns 10 0;
   ps = get_or ns 11 0;
+  pressure = pressure;
 }
+
+-- The card of a line C: it has the pressure of every file.
+abbrev pub card_of : List ℕ → Card
+card_of ns = card_at ns file_pressure
 
 -- The sample of the four numbers of a line S.
 abbrev pub sample_from : List ℕ → Sample

@@ -53,7 +53,8 @@ is_misshapen_due (M.Card e) bs = is_no_line e card bs
 is_misshapen_due (M.SampleOrEnd e) bs = is_no_line e sample bs && is_no_line e totals bs
 
 -- The cause of a refusal: its own condition holds, and none before it. 60: what was told is no edition, or no edition's opening stands there. 61: no
--- line that is due has such a shape. 62: a field after the first is no number, in any line but an opening. 10 to 18: the card is not allowed.
+-- line that is due has such a shape. 62: a field after the first is no number, in any line but an opening. 10 to 18: the card is not allowed
+-- (77 cannot come: `NeverForPressure` of specs/Theorems.antt).
 pub data Cause (bs : List ℕ) : MayCome → Refusal → Type 0 where
   other_edition : {may : MayCome} → is_other_edition (edition_in may bs) ≡ true → Cause bs may R.Edition
   misshapen : {may : MayCome} → is_other_edition (edition_in may bs) ≡ false → is_misshapen_due may bs ≡ true → Cause bs may R.Shape

@@ -4,12 +4,13 @@
 use Rattle.std.specs.Prelude.{◌≡◌, false, List, ◌∷◌, [], ◌++◌, ◌↔◌, ℕ, ◌+◌, ◌≤◌, length, Result, Ok, Err, IfOk}
 use Rattle.quantity.specs.Refusals.{NoneApplies}
 use Rattle.quantity.specs.declared.refusal.Refusal.{Refusal}
+use Rattle.quantity.specs.declared.refusal.Refusal.TheVariants as R
 use Rattle.buffer.specs.Putting.{buffer_after}
 use Rattle.buffer.specs.Theorems.{Fits}
 use Rattle.meter.specs.Edition.{is_other_edition}
 use Rattle.lines.specs.Bytes.{line_feed, comma, digit_zero, archive_word}
 use Rattle.lines.specs.Number.{some_long, some_nonzero}
-use Rattle.lines.specs.Line.{numbers_of, lacked_of, bytes_of, opening_in, opening_length, content_rows}
+use Rattle.lines.specs.Line.{numbers_of, lacked_of, bytes_of, opening_in, opening_length, content_rows, has_other_pressure}
 use Rattle.lines.specs.Reading.{front_of, read_of}
 use Rattle.lines.specs.Writing.{written_of}
 use Rattle.lines.specs.RoundTrip.{ReadsBack, WritesBack, Cause}
@@ -20,13 +21,18 @@ use Rattle.lines.specs.declared.line.MayCome.{MayCome}
 
 -- ---- of one answer
 
--- What makes a line one that can be written: its edition exists, no row on what it says applies, no number on it has over 18 digits, and the totals
--- that its edition lacks are 0.
+-- A line's bytes tell all of it: the totals that its edition lacks are 0, and a card has the pressure of every file.
+pub record TellsAll (line : EditionLine) : Type 0 where
+  pub lacked_zero : some_nonzero (lacked_of line) ≡ false
+  pub pressure : has_other_pressure line.line ≡ false
+
+-- What makes a line one that can be written: its edition exists, no row on what it says applies, no number on it has over 18 digits, and its bytes
+-- tell all of it.
 pub record CanBeWritten (line : EditionLine) : Type 0 where
   pub edition : is_other_edition line.edition ≡ false
   pub content : NoneApplies (content_rows line.line)
   pub short : some_long (numbers_of line) ≡ false
-  pub lacked_zero : some_nonzero (lacked_of line) ≡ false
+  pub tells_all : TellsAll line
 
 -- The writer answers the position next exactly where the line can be written and fits in up to there.
 abbrev pub WrittenExactly : ℕ → ℕ → EditionLine → Result ℕ Refusal → Type 0
@@ -35,6 +41,11 @@ WrittenExactly size at line answer = (next : ℕ) → (answer ≡ Ok next) ↔ (
 -- The reader gives a refusal exactly where that refusal's own condition is the first that holds.
 abbrev pub RefusedExactly : MayCome → List ℕ → Result Front Refusal → Type 0
 RefusedExactly may bs answer = (r : Refusal) → (answer ≡ Err r) ↔ Cause bs may r
+
+-- No line is refused with 77 by the reader: a card that is read has the pressure of every file, whose water table row 14 has asked about before. So of
+-- a card's own numbers only 10 to 18 can come.
+abbrev pub NeverForPressure : Result Front Refusal → Type 0
+NeverForPressure answer = answer ≡ Err R.Pressure → ⊥
 
 -- A line that was read takes at least one byte and no more than there are.
 abbrev pub ReadWithin : List ℕ → Result Front Refusal → Type 0
@@ -59,12 +70,11 @@ pub record SameLine (k l : EditionLine) : Type 0 where
   pub line : k.line ≡ l.line
   pub edition : k.line ≡ L.Opening → k.edition ≡ l.edition
 
--- Bytes that begin with one line's bytes begin with no other's. It holds in any editions, and also of lines that the writer refuses, if the totals
--- that the edition lacks are 0.
+-- Bytes that begin with one line's bytes begin with no other's. It holds in any editions, and also of lines that the writer refuses, if their bytes
+-- tell all of them.
 abbrev pub OneLine : Type 0
 OneLine =
-    (k l : EditionLine) (s t : List ℕ) → some_nonzero (lacked_of k) ≡ false → some_nonzero (lacked_of l) ≡ false → bytes_of k ++ s ≡ bytes_of l ++ t →
-    SameLine k l × (s ≡ t)
+    (k l : EditionLine) (s t : List ℕ) → TellsAll k → TellsAll l → bytes_of k ++ s ≡ bytes_of l ++ t → SameLine k l × (s ≡ t)
 
 -- The opening of an edition is the word, a comma, the edition's digit and a line feed, which are 14 bytes.
 abbrev pub OpeningBytes : Type 0

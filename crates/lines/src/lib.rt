@@ -14,7 +14,9 @@ mod reading;
 mod report;
 mod writing;
 
-pub use line::{EditionLine, Front, Line, MayCome, RefusedAt, TOTALS_FIELDS, Totals};
+pub use line::{
+    EditionLine, FILE_PRESSURE, Front, Line, MayCome, RefusedAt, TOTALS_FIELDS, Totals,
+};
 pub use opening::OPENING_LENGTH;
 pub use reading::{ReadLine, read_line};
 pub use report::{OutputLine, Report, report_line};

@@ -1,6 +1,12 @@
 // The lines of an archive as data, each with its edition, and what a reader of lines or of files answers.
-use meter::{Card, Meter, Sample};
+use meter::{CARD_FIELDS, Card, Meter, Sample};
 use quantity::Refusal;
+
+/// The pressure of every meter that a file tells of, in bar: line C has no field for it (docs/FORMAT.md, "Line C: the meter's card").
+pub const FILE_PRESSURE: u64 = 16;
+
+// How many of the card's numbers stand on line C: all but the last, the pressure.
+pub(crate) const CARD_LINE_FIELDS: usize = CARD_FIELDS - 1;
 
 /// How many totals line E has in the newest edition, which has the most.
 pub const TOTALS_FIELDS: usize = 6;
@@ -94,7 +100,7 @@ impl From<Meter> for Totals {
 pub enum Line {
     /// the first line of a file, which names its edition
     Opening,
-    /// line C
+    /// line C, which has no field for the card's pressure: a card that was read has 16 bar, and one of another pressure is not written
     Card(Card),
     /// line S
     Sample(Sample),

@@ -6,14 +6,14 @@ ghost use Rattle.lines.specs.Number.{decimal};
 ghost use Rattle.lines.specs.Line.{totals, kind_of, first_field, count_of};
 ghost use Rattle.lines.specs.Inside.Parts.{parted_at, numbers_parted, most_numbers, most_later};
 
-use crate::line::{EditionLine, Line, TOTALS_FIELDS};
+use crate::line::{CARD_LINE_FIELDS, EditionLine, Line, TOTALS_FIELDS};
 use crate::number::width;
 use crate::opening::opening_word;
 use meter::{CARD_FIELDS, SAMPLE_FIELDS, counts_cold, keeps_seconds};
 use std::marker::Model;
 
 // The most numbers of any line: the card's line has them.
-pub(crate) const MOST_NUMBERS: usize = CARD_FIELDS;
+pub(crate) const MOST_NUMBERS: usize = CARD_LINE_FIELDS;
 
 // The most numbers of line E, those of the newest edition; a sample's line has fewer.
 pub(crate) const MOST_LATER: usize = TOTALS_FIELDS;
@@ -76,7 +76,10 @@ pub(crate) fn numbers_of(what: EditionLine) -> Listed
 {
     match what.line {
         Line::Opening => Listed::new(&[what.edition], 1),
-        Line::Card(c) => Listed::new(&<[u64; CARD_FIELDS]>::from(c), CARD_FIELDS),
+        Line::Card(c) => Listed::new(
+            &<[u64; CARD_FIELDS]>::from(c)[..CARD_LINE_FIELDS],
+            CARD_LINE_FIELDS,
+        ),
         Line::Sample(s) => Listed::new(&<[u64; SAMPLE_FIELDS]>::from(s), SAMPLE_FIELDS),
         Line::End(t) => Listed::new(&<[u64; TOTALS_FIELDS]>::from(t), totals_count(what.edition)),
     }

@@ -3,11 +3,11 @@ ghost use Rattle.std.specs.Prelude.{◌≡◌};
 ghost use Rattle.quantity.specs.Refusals.{first_number, refusal_number};
 ghost use Rattle.lines.specs.Line.{card, sample, totals};
 ghost use Rattle.lines.specs.Reading.{edition_in, read_of, read_rows, rest_of};
-ghost use Rattle.lines.specs.Theorems.{RefusedExactly, ReadWithin};
+ghost use Rattle.lines.specs.Theorems.{RefusedExactly, NeverForPressure, ReadWithin};
 ghost use Rattle.lines.specs.Inside.Parts.{after_letter};
 
 use crate::fields::read_numbers;
-use crate::line::{EditionLine, Front, Line, MayCome, Totals};
+use crate::line::{CARD_LINE_FIELDS, EditionLine, FILE_PRESSURE, Front, Line, MayCome, Totals};
 use crate::listed::{MOST_LATER, totals_count};
 use crate::opening::{OPENING_LENGTH, opened_edition};
 use meter::{CARD_FIELDS, Card, SAMPLE_FIELDS, Sample, is_other_edition};
@@ -34,6 +34,7 @@ pub fn read_line<'a>(bytes: &'a [u8], may_come: MayCome) -> ReadLine<'a>
     ensures rest { result.rest.now ≡ rest_of bytes.now (read_of may_come bytes.now) }
     ensures number { refusal_number result.front ≡ first_number (read_rows may_come bytes.now) }
     ensures refused_exactly { RefusedExactly may_come bytes.now result.front }
+    ensures never_for_pressure { NeverForPressure result.front }
     ensures read_within { ReadWithin bytes.now result.front }
 {
     let front = front_line(bytes, may_come);
@@ -87,12 +88,13 @@ fn edition_in(bytes: &[u8], may_come: MayCome) -> u64
 // Each letter has a function of its own, with room for the numbers of its own line: a sample's line, which is nearly every line of a file, does not
 // pass through room for a card's.
 
-// The card's line, by what follows its letter. The card's own conditions come after 61 and 62.
+// The card's line, by what follows its letter. The last place of the fields, the pressure, is not read, and keeps that of every file. The card's own
+// conditions come after 61 and 62.
 fn front_card(after: &[u8], edition: u64) -> Result<Front, Refusal>
     ensures { result ≡ after_letter edition card after.now }
 {
-    let mut fields = [0u64; CARD_FIELDS];
-    let size = read_numbers(after, &mut fields)?;
+    let mut fields = [FILE_PRESSURE; CARD_FIELDS];
+    let size = read_numbers(after, &mut fields[..CARD_LINE_FIELDS])?;
     let card = Card::from(fields);
     card.refusal()?;
     let line = EditionLine {

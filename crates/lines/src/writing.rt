@@ -5,12 +5,12 @@ ghost use Rattle.buffer.specs.Putting.{buffer_after};
 ghost use Rattle.buffer.specs.Front.{put_front};
 ghost use Rattle.meter.specs.Edition.{is_other_edition};
 ghost use Rattle.lines.specs.Number.{decimal, some_long, some_nonzero};
-ghost use Rattle.lines.specs.Line.{after_commas, text_of, bytes_of, content_rows};
+ghost use Rattle.lines.specs.Line.{after_commas, text_of, bytes_of, content_rows, has_other_pressure};
 ghost use Rattle.lines.specs.Inside.Parts.{most_numbers};
 ghost use Rattle.lines.specs.Writing.{own_rows, write_rows, written_of};
 ghost use Rattle.lines.specs.Theorems.{WrittenExactly};
 
-use crate::line::{EditionLine, Line};
+use crate::line::{EditionLine, FILE_PRESSURE, Line};
 use crate::listed::{Listed, fields_length, first_field, has_from, numbers_of};
 use crate::number::{LEAST_LONG, put_field};
 use crate::opening::put_opening;
@@ -19,9 +19,9 @@ use meter::is_other_edition;
 use quantity::{Refusal, first_refusal};
 
 /// Puts a line with its edition into buf from the position at on, counted from 0, and answers the position behind it; all other bytes stay.
-/// Refusals, in this order, which leave buf as it was: 67 if at is above the length of buf; 60 if the edition is none; 10 to 18 if a card is not
-/// allowed; 62 if a number has over 18 digits, or a total that the edition lacks is not 0; 66 if there are fewer bytes from at on than the line has
-/// (docs/OPERATIONS.md, "One line: reading and writing").
+/// Refusals, in this order, which leave buf as it was: 67 if at is above the length of buf; 60 if the edition is none; 10 to 18 or 77 if a card is
+/// not allowed; 78 if it has not 16 bar, the pressure of every file; 62 if a number has over 18 digits, or a total that the edition lacks is not 0;
+/// 66 if there are fewer bytes from at on than the line has (docs/OPERATIONS.md, "One line: reading and writing").
 #[tactic(auto, unfolding(buffer::specs::Putting::put_of, buffer::specs::Putting::buffer_after))]
 pub fn write_line(buf: &mut [u8], at: usize, what: EditionLine) -> Result<usize, Refusal>
     ensures answer { result ≡ written_of (length buf.old) at what }
@@ -33,17 +33,20 @@ pub fn write_line(buf: &mut [u8], at: usize, what: EditionLine) -> Result<usize,
     Ok(at + put_line(&mut buf[at..], what))
 }
 
-// What refuses a line wherever it is to be written, in order: 60; what refuses a card; 62.
+// What refuses a line wherever it is to be written, in order: 60; what refuses a card; 78; 62.
 #[tactic(auto, using(crate::proofs::WriterRows::stages))]
 fn own_refusal(what: EditionLine) -> Result<(), Refusal>
     ensures { result ≡ first_of (own_rows what) }
 {
     first_refusal(&[Refusal::Edition.when(is_other_edition(what.edition))])?;
     content_refusal(what.line)?;
-    first_refusal(&[Refusal::Number.when(has_refused_number(&numbers_of(what)))])
+    first_refusal(&[
+        Refusal::FilePressure.when(has_other_pressure(what.line)),
+        Refusal::Number.when(has_refused_number(&numbers_of(what))),
+    ])
 }
 
-// A card's own conditions, 10 to 18. Another line has none on what it says.
+// A card's own conditions, 10 to 18 and 77. Another line has none on what it says.
 #[tactic(auto, unfolding(crate::specs::Line::content_rows, quantity::specs::Refusals::first_of))]
 fn content_refusal(line: Line) -> Result<(), Refusal>
     ensures { result ≡ first_of (content_rows line) }
@@ -51,6 +54,17 @@ fn content_refusal(line: Line) -> Result<(), Refusal>
     match line {
         Line::Card(card) => card.refusal(),
         Line::Opening | Line::Sample(_) | Line::End(_) => Ok(()),
+    }
+}
+
+// Whether the line has a card of another pressure than that of every file.
+#[tactic(auto, unfolding(crate::specs::Line::has_other_pressure))]
+fn has_other_pressure(line: Line) -> bool
+    ensures { result ≡ has_other_pressure line }
+{
+    match line {
+        Line::Card(card) => card.pressure != FILE_PRESSURE,
+        Line::Opening | Line::Sample(_) | Line::End(_) => false,
     }
 }
 

@@ -1,30 +1,36 @@
 -- What is known where no row of card, state or sample refuses, as plain facts about numbers.
 -- Assumes nothing.
-use mathlib.Core.Path.{◌≡◌, refl, subst}
+use mathlib.Core.Path.{◌≡◌, refl, sym, ◌∙◌, ap, subst}
+use mathlib.Core.List.{List}
+use lib.ListN.{take, drop}
 use mathlib.Core.Bool.{Bool, true, false, not, cond, ◌&&◌, ◌||◌}
 use Prim.Native.Nat.{ℕ, ◌+◌, ◌*◌, ◌^◌, ◌≤◌, ◌<◌}
 use native.Mathlib.Omega.{arith}
 use lib.Dec.{ltb, leb, eqb}
 use borrow.Author.Tests.{le-ltb, ltb-true, ltb-false, leb-true, leb-false, eqb-false, eqb-true, not-false}
-use Rattle.quantity.specs.Refusals.{NoneApplies}
+use Rattle.quantity.specs.Refusals.{number_of, first_of, NoneApplies}
+use Rattle.quantity.specs.declared.refusal.Row.{Row}
 use Rattle.quantity.proofs.Conditions.{neither, both, inside}
-use Rattle.quantity.specs.Units.{last_hundredth, is_colder, distance_of}
+use Rattle.quantity.specs.Units.{is_colder, distance_of, whole_degrees}
 use Rattle.quantity.specs.declared.units.Temperature.{Temperature}
 use Rattle.quantity.specs.declared.range.Role.{Role}
 use Rattle.quantity.specs.declared.range.Role.TheVariants.{Supply, Return}
 use Rattle.quantity.specs.declared.range.End.TheVariants.{Low, High}
-use Rattle.quantity.proofs.Rows.{none_of_parts}
+use Rattle.quantity.proofs.Rows.{parts, none_applies, no_refusal, none_of_parts, of_some_row}
 use Rattle.platinum.specs.Sensor.{sensor_of, is_unknown}
 use Rattle.platinum.specs.Refusal.{end_rows}
 use Rattle.std.specs.Prelude.{Result, Ok, Err}
+use Rattle.std.specs.Result.{is_err, result_and}
+use Rattle.quantity.specs.declared.refusal.Refusal.{Refusal}
+use Rattle.water.specs.Pressure.{last_of, pressure_of, ends_below}
+use Rattle.water.specs.Table.{table_for}
+use Rattle.water.specs.declared.pressure.Pressure.{Pressure}
 use Rattle.platinum.specs.declared.reading.Unmeasured.{Unmeasured}
 use Rattle.platinum.specs.declared.reading.Unmeasured.TheVariants.{NoSensor, Outside}
-use Rattle.platinum.specs.Temperature.{temperature_of}
-use Rattle.platinum.proofs.Answer.{within_range}
 use Rattle.meter.specs.Edition.{is_other_edition, keeps_seconds, counts_cold}
 use Rattle.meter.specs.Card.{card_rows}
 use Rattle.meter.specs.State.{state_rows, largest_register, largest_volume, largest_count, most_seconds, passes_limit, misfits_edition}
-use Rattle.meter.specs.Sample.{supply_of, return_of, temperature_or_missing, ts, tr}
+use Rattle.meter.specs.Sample.{supply_of, return_of, ts, tr}
 use Rattle.meter.specs.Register.{register_of, own_register}
 use Rattle.meter.specs.Step.{count_rows, reading_rows, is_above_qs, range_rows, limit_rows, kept_of}
 use Rattle.meter.specs.Inside.Stages.{AcceptedCard, AcceptedState, AcceptedCounts, AcceptedLimits}
@@ -45,6 +51,45 @@ sensor_most n h = by (eqb n 100) (eqb n 500) (eqb n 1000) refl refl refl h
     by false true c e f g k = let z : n ≡ 500 = eqb-true n 500 f in omega (arith, z)
     by false false true e f g k = let z : n ≡ 1000 = eqb-true n 1000 g in omega (arith, z)
     by false false false e f g k = absurd (let z : true ≡ false = simp (e, f, g) at k in let y : ◌≡◌ {A = ℕ} 0 1 = cc in omega arith)
+
+-- a pressure whose table reaches so many degrees
+reaches : (field d : ℕ) → ends_below (pressure_of field) d ≡ false → (is_err (pressure_of field) ≡ false) × (d ≤ (table_for field).last)
+reaches field d h = by (pressure_of field) refl h
+  where
+    by : (r : Result Pressure Refusal) → pressure_of field ≡ r → ends_below r d ≡ false → (is_err (pressure_of field) ≡ false) × (d ≤ (table_for field).last)
+    by (Ok p) e h = (rw e refl, rw e (ltb-false _ _ h))
+    by (Err r) e h = absurd (let z : ◌≡◌ {A = ℕ} 0 1 = cc in omega arith)
+
+-- at 16 bar no card is refused for its pressure, since row 14 has asked of Θmax before: its numbers then end at 18
+module _ (c : Card) (p : c.pressure ≡ 16) (r : Refusal) (e : first_of (card_rows c) ≡ Err r) where
+  abbrev others : List Row
+  others = take 9 (card_rows c)
+
+  abbrev last : List Row
+  last = drop 9 (card_rows c)
+
+  in_two : first_of (card_rows c) ≡ result_and (first_of others) (first_of last)
+  unfolding card_rows
+  in_two = parts others last
+
+  reached : first_of others ≡ Ok tt → first_of last ≡ Ok tt
+  unfolding card_rows pressure_of last_of
+  reached h =
+      let none = none_applies others h in
+      let theta = neither _ _ none.1.1.1.1.0 in
+      no_refusal last (rw p theta.1, tt)
+
+  pub number_at_16 : number_of r ≤ 18
+  unfolding card_rows number_of
+  number_at_16 = by (first_of others) refl
+    where
+      by : (o : Result Unit Refusal) → first_of others ≡ o → number_of r ≤ 18
+      by (Err q) h =
+          let same : ◌≡◌ {A = Result Unit Refusal} (Err q) (Err r) = sym (in_two ∙ ap (λ (x : Result Unit Refusal). result_and x (first_of last)) h) ∙ e in
+          of_some_row (λ (k : Refusal). number_of k ≤ 18) others r (omega arith) (h ∙ same)
+      by (Ok u) h =
+          let impossible : ◌≡◌ {A = Result Unit Refusal} (Ok tt) (Err r) = sym (in_two ∙ ap (λ (x : Result Unit Refusal). result_and x (first_of last)) h ∙ reached h) ∙ e in
+          absurd cc
 
 pub accepted_card : (c : Card) → NoneApplies (card_rows c) → AcceptedCard c
 unfolding card_rows
@@ -71,6 +116,7 @@ accepted_card c h =
       flow = leb-true _ _ flow.1;
       flows = (leb-true _ _ lower.1, leb-true _ _ middle.1);
       power = inside _ _ _ h17.1.0;
+      pressure = reaches c.pressure c.theta_max h17.1.1.0;
     }
 
 -- a condition on editions that lack something: what it says, where it is false, and when it is
@@ -138,6 +184,18 @@ accepted_counts c s h =
     let p = neither _ _ h.1.0 in
     record { seconds = inside _ _ _ h.0; pulses = ltb-false _ _ p.0; volume = ltb-false _ _ p.1 }
 
+-- both temperatures of a sample within its ranges are those of its card's table
+pub record InTable (c : Card) (s : Sample) : Type 0 where
+  pub of_supply : (ts c s).0 ≤ 100 * (table_for c.pressure).last
+  pub of_return : (tr c s).0 ≤ 100 * (table_for c.pressure).last
+
+pub in_table : (e : ℕ) (c : Card) (s : Sample) → AcceptedCard c → NoneApplies (range_rows e c s) → InTable c s
+unfolding range_rows
+in_table e c s k h = record { of_supply = below (ts c s) (neither _ _ h.0).1; of_return = below (tr c s) (neither _ _ h.1.0).1 }
+  where
+    below : (t : Temperature) → is_colder (whole_degrees c.theta_max) t ≡ false → t.0 ≤ 100 * (table_for c.pressure).last
+    below t l = omega (arith, ltb-false (c.theta_max * 100) t.0 l, k.pressure.1)
+
 -- two temperatures that lie so much apart, whichever is the warmer
 pub record Apart (a b : Temperature) (n : ℕ) : Type 0 where
   pub colder : is_colder a b ≡ true → a.0 + n ≤ b.0
@@ -193,11 +251,3 @@ unfolding reading_rows
 accepted_readings c s h =
     let p = none_of_parts (end_rows Supply (supply_of c s)) (end_rows Return (return_of c s)) h in
     record { of_supply = has_temperature Supply _ p.0; of_return = has_temperature Return _ p.1 }
-
--- a temperature of the definitions, the default among them, is at most 180.00 °C
-by_answer : (x : Result Temperature Unmeasured) → ((t : Temperature) → x ≡ Ok t → t.0 ≤ last_hundredth) → (temperature_or_missing x).0 ≤ last_hundredth
-by_answer (Ok t) h = h t refl
-by_answer (Err u) h = omega arith
-
-pub temperature_at_most : (field r : ℕ) → (temperature_or_missing (temperature_of field r)).0 ≤ last_hundredth
-temperature_at_most field r = by_answer (temperature_of field r) (within_range field r)

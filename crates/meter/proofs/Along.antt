@@ -165,17 +165,13 @@ not_73 m s a (refuses_before r f) = before_not_73 m r f
 pub step_not_73 : (m : Meter) (s : Sample) → eqb (refusal_number (step_of m s).outcome) 73 ≡ false
 step_not_73 m s = not_73 m s (step_of m s) (step_answers m s)
 
--- So after any calls from a fresh meter the step refuses with 21 or with a number of the sample's rows.
-by_answer : (m : Meter) (s : Sample) (a : Stepped) → Answers m s a → WithinLimits m →
-    let n = refusal_number a.outcome in
-    (n ≡ 0) ⊎ ((n ≡ 21) ⊎ (30 ≤ n))
-unfolding refusal_number
-by_answer m s a (accepts h) g = inl refl
-by_answer m s a (refuses_sample r f h) g = inr (inr (sample_number m s r h))
-by_answer m s a (refuses_before r f) g = inr (inl (number_21 r (only_21 m r g f)))
-
+-- So after any calls from a fresh meter no row of card and state applies but that of 21.
 pub no_other_refusal : NoOtherRefusal
-no_other_refusal c e m h ks z calls s = by_answer z s (step_of z s) (step_answers z s) (stays_within_limits c e m h ks z calls)
+no_other_refusal c e m h ks z calls = by (first_of (card_and_state_rows z)) refl
+  where
+    by : (o : Result Unit Refusal) → first_of (card_and_state_rows z) ≡ o → (o ≡ Ok tt) ⊎ (o ≡ Err CountsFull)
+    by (Ok u) p = inl refl
+    by (Err r) p = inr (ap Err (only_21 z r (stays_within_limits c e m h ks z calls) p))
 
 -- the two counts together
 abbrev both_counts : Meter → ℕ

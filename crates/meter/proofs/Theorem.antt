@@ -3,7 +3,7 @@
 use mathlib.Core.Path.{◌≡◌, refl, sym, ◌∙◌, ap, subst}
 use mathlib.Core.List.{List, [], ◌∷◌}
 use mathlib.Core.Bool.{Bool, true, false, cond, ◌&&◌}
-use Prim.Native.Nat.{ℕ, ◌+◌, ◌≤◌}
+use Prim.Native.Nat.{ℕ, ◌+◌, ◌*◌, ◌≤◌}
 use native.Mathlib.Nat.{add-zero}
 use native.Mathlib.Omega.{arith}
 use lib.Dec.{ltb}
@@ -14,13 +14,13 @@ use Rattle.std.specs.Result.{result_and}
 use Rattle.quantity.specs.declared.refusal.Refusal.{Refusal}
 use Rattle.quantity.specs.declared.refusal.Refusal.TheVariants as R
 use Rattle.quantity.proofs.Rows.{first_number_lem, none_applies, no_refusal, none_of_parts, none_together}
-use Rattle.water.specs.Table.{water}
+use Rattle.water.specs.Table.{Table, table_for}
+use Rattle.water.specs.Theorems.{TableBounds}
 use Rattle.water.specs.Heat.{exact_heat}
-use Rattle.quantity.specs.Units.{last_hundredth}
 use Rattle.quantity.specs.declared.units.Temperature.{Temperature}
 use Rattle.quantity.specs.Fractions.{plus, floored}
 use Rattle.quantity.specs.declared.fraction.Fraction.{Fraction}
-use Rattle.water.proofs.Bounds.{water_bounded}
+use Rattle.water.proofs.Bounds.{bounded}
 use Rattle.water.proofs.ExactHeats.{heat_is_fraction, no_volume_no_heat, at_least_2000, of_either_order}
 use Rattle.meter.specs.Edition.{is_other_edition}
 use Rattle.meter.specs.Card.{card_rows}
@@ -43,17 +43,17 @@ use Rattle.meter.proofs.Keeping.{HeatBounds, start, keep}
 use Rattle.meter.proofs.Existence.{by_askings}
 use Rattle.meter.proofs.Leaves.{Leaves, adds, counts, keeps, leaves}
 use Rattle.meter.proofs.Registers.{unchanged, empty}
-use Rattle.meter.proofs.Accepted.{accepted_card, accepted_pair, temperature_at_most}
+use Rattle.meter.proofs.Accepted.{accepted_card, accepted_pair, in_table}
 
--- the exact heat between temperatures that lie at least 1 K apart
-between : (u : ℕ) (warm cold measured : Temperature) → cold.0 + 100 ≤ warm.0 → warm.0 ≤ last_hundredth →
-    HeatBounds (ltb 0 u) (exact_heat water u warm cold measured)
-between u warm cold measured apart most = record {
-  is_fraction = heat_is_fraction water water_bounded u warm cold measured;
+-- the exact heat by a bounded table, between temperatures of it that lie at least 1 K apart
+between : (w : Table) → TableBounds w → (u : ℕ) (warm cold measured : Temperature) → cold.0 + 100 ≤ warm.0 → warm.0 ≤ 100 * w.last →
+    HeatBounds (ltb 0 u) (exact_heat w u warm cold measured)
+between w b u warm cold measured apart most = record {
+  is_fraction = heat_is_fraction w b u warm cold measured;
   none = λ e.
       let no_volume : u ≡ 0 = omega (arith, ltb-false 0 u e) in
-      rw no_volume (no_volume_no_heat water _ _ _);
-  least = λ e. at_least_2000 water water_bounded u warm cold measured (ltb-true 0 u e) apart most;
+      rw no_volume (no_volume_no_heat w _ _ _);
+  least = λ e. at_least_2000 w b u warm cold measured (ltb-true 0 u e) apart most;
 }
 
 -- so the exact heat of an accepted sample, whichever of its temperatures is the warmer
@@ -61,11 +61,15 @@ heat_bounds : (m : Meter) (s : Sample) → NoRowRefuses m s → HeatBounds (has_
 unfolding sample_heat
 heat_bounds m s h =
     let c = m.card in
-    let least = (accepted_card c h.card).delta_min.0 in
+    let w = table_for c.pressure in
+    let b = bounded _ in
+    let card = accepted_card c h.card in
+    let least = card.delta_min.0 in
     let pair = accepted_pair m.edition c s h.range in
-    of_either_order (HeatBounds (has_volume c s)) water (volume_of c s) (ts c s) (tr c s) c.place
-    (λ e. between _ _ _ _ (omega (arith, pair.colder e)) (temperature_at_most _ _))
-    (λ e. between _ _ _ _ (omega (arith, pair.not_colder e)) (temperature_at_most _ _))
+    let inside = in_table m.edition c s card h.range in
+    of_either_order (HeatBounds (has_volume c s)) w (volume_of c s) (ts c s) (tr c s) c.place
+    (λ e. between w b _ _ _ _ (omega (arith, pair.colder e)) inside.of_return)
+    (λ e. between w b _ _ _ _ (omega (arith, pair.not_colder e)) inside.of_supply)
 
 -- what an accepted sample leaves in a register
 pub raised : (r : Register) (m : Meter) (s : Sample) → register_of r (accepting m s) ≡ register_of r m + added_by r m.card s

@@ -7,12 +7,13 @@ use Rattle.quantity.specs.declared.refusal.Refusal.TheVariants as R
 use Rattle.quantity.specs.declared.refusal.Row.{Row}
 use Rattle.quantity.specs.Units.{last_degree, largest_kelvins}
 use Rattle.platinum.specs.Sensor.{sensor_of, is_unknown}
+use Rattle.water.specs.Pressure.{pressure_of, ends_below}
 use Rattle.meter.specs.declared.card.Card.{Card}
 
--- The card's numbers in the order of line C: the serial number; the place where the volume is measured, 1 in the supply and 2 in the return; the
--- resistance of the platinum sensors at 0 °C, in ohm; the volume of a pulse, in mL; in whole °C the limits of the temperatures, Θmin and Θmax; in
--- whole K those of the temperature difference, Δmin and Δmax; the flow rates in mL/h, namely the lower limit qi, the permanent one qp and the upper
--- limit qs; and the upper limit Ps of the thermal power, in W.
+-- The card's numbers in their order, which is that of line C: the serial number; the place where the volume is measured, 1 in the supply and 2 in the
+-- return; the resistance of the platinum sensors at 0 °C, in ohm; the volume of a pulse, in mL; in whole °C the limits of the temperatures, Θmin and
+-- Θmax; in whole K those of the temperature difference, Δmin and Δmax; the flow rates in mL/h, namely the lower limit qi, the permanent one qp and the
+-- upper limit qs; the upper limit Ps of the thermal power, in W; and, on no line, the pressure of the water, in bar.
 unfoldable pub fields_of : Card → List ℕ
 fields_of c =
     c.serial
@@ -27,11 +28,12 @@ fields_of c =
     ∷ c.qp
     ∷ c.qs
     ∷ c.ps
+    ∷ c.pressure
     ∷ []
 
 -- How many numbers these are.
 abbrev pub card_fields : ℕ
-card_fields = 12
+card_fields = 13
 
 -- A card is refused, in this order, with
 -- 10 unless its serial number is from 1 to 99999999,
@@ -42,7 +44,8 @@ card_fields = 12
 -- 15 unless Δmin is 1, 2 or 3 K,
 -- 16 unless Δmax is at least ten times Δmin (OIML R 75-1, 7.1) and at most 180 K,
 -- 17 unless qi is at least 1 mL/h, qp not below qi, qs not below qp, and qs at most 1000 m³/h,
--- 18 unless Ps is from 1 W to 1 GW.
+-- 18 unless Ps is from 1 W to 1 GW,
+-- 77 unless the pressure is 6 or 16 bar, and its water table reaches Θmax: at 6 bar it ends at 150 °C, at 16 bar where 14 has asked already.
 -- The fields that no formula uses, which are the serial number, qi and qp, are tested like the others.
 unfoldable pub card_rows : Card → List Row
 card_rows c =
@@ -55,4 +58,5 @@ card_rows c =
     ∷ row R.DeltaMax (ltb c.delta_max (10 * c.delta_min) || ltb largest_kelvins c.delta_max)
     ∷ row R.FlowRates (not (leb 1 c.qi && leb c.qi c.qp && leb c.qp c.qs && leb c.qs (10 ^ 9)))
     ∷ row R.PowerLimit (outside c.ps 1 (10 ^ 9))
+    ∷ row R.Pressure (ends_below (pressure_of c.pressure) c.theta_max)
     ∷ []

@@ -4,7 +4,7 @@ use Rattle.std.specs.Prelude.{ℕ, ◌*◌, List, [], ◌∷◌, Bool, ltb, Resu
 use Rattle.quantity.specs.declared.units.Temperature.{Temperature}
 use Rattle.platinum.specs.Temperature.{temperature_of}
 use Rattle.platinum.specs.declared.reading.Unmeasured.{Unmeasured}
-use Rattle.water.specs.Table.{water}
+use Rattle.water.specs.Table.{table_for}
 use Rattle.quantity.specs.declared.fraction.Fraction.{Fraction}
 use Rattle.water.specs.Heat.{pair_heat}
 use Rattle.meter.specs.declared.card.Card.{Card}
@@ -58,4 +58,4 @@ tr c s = temperature_or_missing (return_of c s)
 -- volume is taken at the temperature of the pipe in which the volume is measured (`pair_heat` of water's specs/Heat.antt). A register grows by this
 -- fraction rounded down; the exact sum (specs/Sum.antt) takes the fraction itself.
 unfoldable pub sample_heat : Card → Sample → Fraction
-sample_heat c s = pair_heat water (volume_of c s) (ts c s) (tr c s) c.place
+sample_heat c s = pair_heat (table_for c.pressure) (volume_of c s) (ts c s) (tr c s) c.place

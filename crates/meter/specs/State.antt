@@ -1,6 +1,6 @@
 -- The state of a meter: its card, its edition and six totals. This page has the fresh meter, the limits of the totals, and the two rows that refuse
 -- a state, 20 and 21 (docs/OPERATIONS.md, "The meter's state").
-use Rattle.std.specs.Prelude.{ℕ, ◌+◌, ◌-◌, ◌*◌, ◌^◌, List, [], ◌∷◌, ◌++◌, Bool, not, ◌&&◌, ◌||◌, ltb, eqb, Result, Ok, Err}
+use Rattle.std.specs.Prelude.{ℕ, ◌+◌, ◌-◌, ◌*◌, ◌^◌, List, [], ◌∷◌, ◌++◌, Bool, not, ◌&&◌, ◌||◌, ltb, eqb, Result, Ok}
 use Rattle.std.specs.Result.{result_and}
 use Rattle.quantity.specs.Refusals.{row, first_of}
 use Rattle.quantity.specs.declared.refusal.Refusal.{Refusal}
@@ -16,7 +16,7 @@ use Rattle.meter.specs.declared.state.Meter.{Meter}
 abbrev pub zeros : Card → ℕ → Meter
 zeros c e = record { card = c; edition = e; heat_register = 0; volume = 0; accepted = 0; refused = 0; kept_seconds = 0; cold_register = 0 }
 
--- What refuses a fresh meter: first its card (10 to 18), then a number that is no edition's (20).
+-- What refuses a fresh meter: first its card (10 to 18, 77), then a number that is no edition's (20).
 abbrev pub fresh_rows : Card → ℕ → List Row
 fresh_rows c e = card_rows c ++ (row R.State (is_other_edition e) ∷ [])
 

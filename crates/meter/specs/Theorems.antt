@@ -2,19 +2,20 @@
 -- function has that name, if it promises nothing else; and so has the lemma in proofs/ that proves it. First stands what is true of one answer,
 -- which its function promises, then what is true of whole lists of calls, which src/laws.rt promises. Below, a meter after any calls is one that a
 -- list of calls (specs/Calls.antt) leads to from the fresh meter of an allowed card and an edition, whatever was accepted or refused on the way.
-use Rattle.std.specs.Prelude.{◌≡◌, List, [], ◌∷◌, map, true, false, cond, ◌||◌, ◌↔◌, ◌⊎◌, ℕ, ◌+◌, ◌*◌, ◌≤◌, ◌<◌, eqb, Result, Ok}
+use Rattle.std.specs.Prelude.{◌≡◌, List, [], ◌∷◌, map, true, false, cond, ◌||◌, ◌↔◌, ◌⊎◌, ℕ, ◌+◌, ◌*◌, ◌≤◌, eqb, Result, Ok, Err}
 use Rattle.std.specs.List.{sum}
 use Rattle.quantity.specs.Fractions.{floored}
 use Rattle.quantity.specs.Units.{is_colder}
 use Rattle.quantity.specs.Refusals.{refusal_number, first_of, NoneApplies}
 use Rattle.quantity.specs.declared.units.Temperature.{Temperature}
 use Rattle.quantity.specs.declared.refusal.Refusal.{Refusal}
+use Rattle.quantity.specs.declared.refusal.Refusal.TheVariants.{CountsFull}
 use Rattle.meter.specs.Edition.{is_other_edition, keeps_seconds, counts_cold}
 use Rattle.meter.specs.Card.{card_rows}
 use Rattle.meter.specs.State.{fresh_of, zeros, largest_register, largest_volume, largest_count, most_seconds}
 use Rattle.meter.specs.Sample.{volume_of, supply_of, return_of, ts, tr, sample_heat}
 use Rattle.meter.specs.Register.{register_of, own_register}
-use Rattle.meter.specs.Step.{kept_of, step_of}
+use Rattle.meter.specs.Step.{card_and_state_rows, kept_of, step_of}
 use Rattle.meter.specs.Profile.{quarters, zero_cells, profile_rows, cell_at, in_quarter_of}
 use Rattle.meter.specs.Day.{InQuarter, DayCalls, day_of, day_asked}
 use Rattle.meter.specs.Sum.{Mark, is_own, nothing, sum_of, allowance_of, WithinBounds}
@@ -149,7 +150,7 @@ pub record LackedZero (e : ℕ) (m : Meter) : Type 0 where
   pub seconds : keeps_seconds e ≡ false → m.kept_seconds ≡ 0
   pub cold : counts_cold e ≡ false → m.cold_register ≡ 0
 
--- A meter that none of 10 to 18 and 20 refuses, limit by limit: its card is allowed, its totals are within their limits, and they fit its
+-- A meter that none of 10 to 18, 77 and 20 refuses, limit by limit: its card is allowed, its totals are within their limits, and they fit its
 -- edition. The counts may have reached their limit, which 21 refuses.
 pub record WithinLimits (m : Meter) : Type 0 where
   pub card : first_of (card_rows m.card) ≡ Ok tt
@@ -170,13 +171,12 @@ abbrev pub LackedStaysZero : Type 0
 LackedStaysZero =
     (c : Card) (e : ℕ) (m : Meter) → fresh_of c e ≡ Ok m → (ks : List Mark) (z : Meter) → Calls m ks z → LackedZero e z
 
--- So a meter after calls is refused for its card or its state with 21 alone: the step accepts any further sample (0), or refuses it with 21, or with
--- a number from 30 on, which in the step only the sample's own rows give.
+-- So a meter after calls is refused for its card or its state with 21 alone: of their rows, which come before a sample's own, either none applies or
+-- the first that does is that of the full counts.
 abbrev pub NoOtherRefusal : Type 0
 NoOtherRefusal =
-    (c : Card) (e : ℕ) (m : Meter) → fresh_of c e ≡ Ok m → (ks : List Mark) (z : Meter) → Calls m ks z → (s : Sample) →
-    let n = refusal_number (step_of z s).outcome in
-    (n ≡ 0) ⊎ ((n ≡ 21) ⊎ (30 ≤ n))
+    (c : Card) (e : ℕ) (m : Meter) → fresh_of c e ≡ Ok m → (ks : List Mark) (z : Meter) → Calls m ks z →
+    (first_of (card_and_state_rows z) ≡ Ok tt) ⊎ (first_of (card_and_state_rows z) ≡ Err CountsFull)
 
 -- What a call with this outcome adds to the two counts together: nothing where 21 or 73 refused it, and otherwise 1.
 abbrev pub counts_of : Result Unit Refusal → ℕ

@@ -1,17 +1,21 @@
-// The card of a meter, and the refusals 10 to 18 of one that is not allowed.
+// The card of a meter, and the refusals 10 to 18 and 77 of one that is not allowed.
 ghost use Rattle.std.specs.Prelude.{◌≡◌, not, ◌&&◌, ◌||◌, ◌*◌, ◌^◌, ltb, leb};
 ghost use Rattle.quantity.specs.Refusals.{refusal_number, first_of, first_number};
 ghost use Rattle.quantity.specs.Units.{last_degree, largest_kelvins};
+ghost use Rattle.platinum.specs.Sensor.{sensor_of, is_unknown};
+ghost use Rattle.water.specs.Pressure.{pressure_of, ends_below};
 ghost use Rattle.meter.specs.Card.{fields_of, card_rows};
 
 use platinum::Sensor;
 use quantity::{LARGEST_KELVINS, LAST_DEGREE, Refusal, first_refusal, is_outside};
+use water::Pressure;
 
 /// How many numbers a card has.
-pub const CARD_FIELDS: usize = 12;
+pub const CARD_FIELDS: usize = 13;
 
-/// What is fixed about a meter when it is built in: the numbers of line C, in its order (docs/FORMAT.md, "Line C: the meter's card"). Any number of
-/// 64 bits may stand in any field, in place and sensor too; `Card::refusal` tells what is wrong with a card.
+/// What is fixed about a meter when it is built in: the numbers of line C, in its order (docs/FORMAT.md, "Line C: the meter's card"), and last the
+/// pressure, which no file tells. Any number of 64 bits may stand in any field, in place, sensor and pressure too; `Card::refusal` tells what is
+/// wrong with a card.
 #[derive(Clone, Copy, Debug, PartialEq, Eq)]
 pub struct Card {
     /// the meter's serial number, from 1 to 99999999
@@ -38,9 +42,11 @@ pub struct Card {
     pub qs: u64,
     /// Ps, the upper limit of the thermal power, in W: 1 to 10^9
     pub ps: u64,
+    /// the pressure of the water, in bar: 6 or 16, at 6 with Θmax at most 150
+    pub pressure: u64,
 }
 
-/// The card of these numbers, in the order of line C, whatever they are. This is the one place of the crate that builds a card.
+/// The card of these numbers, in its order, whatever they are. This is the one place of the crate that builds a card.
 impl From<[u64; CARD_FIELDS]> for Card {
     ghost from_gives = { λ f c. fields_of c ≡ f };
 
@@ -58,6 +64,7 @@ impl From<[u64; CARD_FIELDS]> for Card {
             qp,
             qs,
             ps,
+            pressure,
         ] = f;
         Card {
             serial,
@@ -72,11 +79,12 @@ impl From<[u64; CARD_FIELDS]> for Card {
             qp,
             qs,
             ps,
+            pressure,
         }
     }
 }
 
-/// A card's numbers, in the order of line C.
+/// A card's numbers, in its order.
 impl From<Card> for [u64; CARD_FIELDS] {
     ghost from_gives = { λ c f. f ≡ fields_of c };
 
@@ -95,13 +103,16 @@ impl From<Card> for [u64; CARD_FIELDS] {
             c.qp,
             c.qs,
             c.ps,
+            c.pressure,
         ]
     }
 }
 
 impl Card {
-    /// The first of 10 to 18 whose condition holds of the card, or nothing for a card that is allowed. Every field is tested
-    /// (docs/FORMAT.md, "Line C: the meter's card").
+    /// The first of 10 to 18 and 77 whose condition holds of the card, or nothing for a card that is allowed. Every field is tested
+    /// (docs/FORMAT.md, "Line C: the meter's card", and for 77 docs/OPERATIONS.md, "The meter's state").
+    // `inline`, so that a loop over one card's samples need not test the card for each of them.
+    #[inline]
     #[tactic(auto, unfolding(crate::specs::Card::card_rows))]
     pub fn refusal(self) -> Result<(), Refusal>
         ensures answer { result ≡ first_of (card_rows self) }
@@ -110,14 +121,21 @@ impl Card {
         first_refusal(&[
             Refusal::Serial.when(is_outside(self.serial, 1, 99999999)),
             Refusal::Place.when(is_outside(self.place, 1, 2)),
-            Refusal::SensorKind.when(Sensor::try_from(self.sensor).is_err()),
+            Refusal::SensorKind.when(self.is_sensor_unknown()),
             Refusal::PulseVolume.when(is_outside(self.ml_per_pulse, 1, 100000)),
             Refusal::ThetaRange.when(self.is_theta_refused()),
             Refusal::DeltaMin.when(is_outside(self.delta_min, 1, 3)),
             Refusal::DeltaMax.when(self.is_delta_max_refused()),
             Refusal::FlowRates.when(self.are_flows_refused()),
             Refusal::PowerLimit.when(is_outside(self.ps, 1, 1000000000)),
+            Refusal::Pressure.when(self.is_pressure_refused()),
         ])
+    }
+
+    fn is_sensor_unknown(self) -> bool
+        ensures { result ≡ is_unknown (sensor_of self.sensor) }
+    {
+        Sensor::try_from(self.sensor).is_err()
     }
 
     fn is_theta_refused(self) -> bool
@@ -137,5 +155,15 @@ impl Card {
         ensures { result ≡ not (leb 1 self.qi && leb self.qi self.qp && leb self.qp self.qs && leb self.qs (10 ^ 9)) }
     {
         !(1 <= self.qi && self.qi <= self.qp && self.qp <= self.qs && self.qs <= 1000000000)
+    }
+
+    // The water table of the pressure has to reach Θmax.
+    fn is_pressure_refused(self) -> bool
+        ensures { result ≡ ends_below (pressure_of self.pressure) self.theta_max }
+    {
+        match Pressure::try_from(self.pressure) {
+            Ok(pressure) => pressure.last_degree() < self.theta_max,
+            Err(_) => true,
+        }
     }
 }

@@ -9,8 +9,8 @@ use crate::edition::is_other_edition;
 use crate::state::Meter;
 use quantity::{Refusal, first_refusal};
 
-/// The meter of a card and an edition with all six totals at 0. Refuses a card that is not allowed with the first of 10 to 18 whose condition
-/// holds, and then with 20 an edition other than 1, 2 and 3 (docs/OPERATIONS.md, "The meter's state").
+/// The meter of a card and an edition with all six totals at 0. Refuses a card that is not allowed with the first of 10 to 18 and 77 whose
+/// condition holds, and then with 20 an edition other than 1, 2 and 3 (docs/OPERATIONS.md, "The meter's state").
 pub fn fresh(card: Card, edition: u64) -> Result<Meter, Refusal>
     ensures answer { result ≡ fresh_of card edition }
     ensures number { refusal_number result ≡ first_number (fresh_rows card edition) }

@@ -2,12 +2,12 @@
 ghost use Rattle.std.specs.Prelude.{◌≡◌, ◌++◌, IfOk, Ok};
 ghost use Rattle.std.specs.Result.{result_and};
 ghost use Rattle.quantity.specs.Fractions.{floored};
-ghost use Rattle.quantity.specs.Refusals.{first_of};
+ghost use Rattle.quantity.specs.Refusals.{first_of, NoneApplies};
 ghost use Rattle.platinum.specs.Temperature.{temperature_of};
 ghost use Rattle.platinum.specs.Refusal.{end_rows};
 ghost use Rattle.meter.specs.Sample.{temperature_or_missing, volume_of, ts, tr, sample_heat};
 ghost use Rattle.meter.specs.Register.{own_register};
-ghost use Rattle.meter.specs.Step.{count_rows, reading_rows, is_above_qs, kept_of};
+ghost use Rattle.meter.specs.Step.{count_rows, reading_rows, range_rows, is_above_qs, kept_of};
 ghost use Rattle.meter.specs.Inside.Stages.{AcceptedCounts};
 
 use crate::card::Card;
@@ -78,9 +78,10 @@ impl Measurement {
         Register::by(self.supply_temperature, self.return_temperature)
     }
 
-    // Its heat or cold in mJ, rounded down. Of such a sample the water's operation refuses nothing.
+    // Its heat or cold in mJ, rounded down. Of a sample within its ranges the water's operation refuses nothing.
     #[tactic(auto, using(crate::proofs::Heats::of_sample))]
     pub(crate) fn heat(self) -> Result<u64, Refusal>
+        requires { NoneApplies (range_rows self.usable.meter.edition self.usable.meter.card self.sample) }
         ensures { result ≡ Ok (floored (sample_heat self.usable.meter.card self.sample)) }
     {
         water::heat(
@@ -88,6 +89,7 @@ impl Measurement {
             self.supply_temperature,
             self.return_temperature,
             self.usable.meter.card.place,
+            self.usable.meter.card.pressure,
         )
     }
 }

@@ -19,7 +19,7 @@ pub(crate) const LARGEST_COUNT: u64 = 1000000000000;
 pub(crate) const MOST_SECONDS: u64 = 3600;
 
 /// A meter: its card, its edition and its six totals (docs/OPERATIONS.md, "The meter's state"). Any number of 64 bits may stand in any field; the
-/// step refuses such a card with 10 to 18 and such a state with 20 or 21.
+/// step refuses such a card with 10 to 18 or 77 and such a state with 20 or 21.
 #[derive(Clone, Copy, Debug, PartialEq, Eq)]
 pub struct Meter {
     /// what is fixed about the meter

@@ -22,8 +22,8 @@ pub struct Stepped {
     pub outcome: Result<(), Refusal>,
 }
 
-/// Takes one sample (docs/FORMAT.md, "Which samples are accepted" and "Heat and cold"). Refuses with 10 to 18 for the card and with 20 or 21 for
-/// the state, which leaves the meter unchanged. Refuses a sample with 30 to 41, 70 or 71, in the order that docs/FORMAT.md gives, which adds 1 to
+/// Takes one sample (docs/FORMAT.md, "Which samples are accepted" and "Heat and cold"). Refuses with 10 to 18 or 77 for the card and with 20 or
+/// 21 for the state, which leaves the meter unchanged. Refuses a sample with 30 to 41, 70 or 71, in the order that docs/FORMAT.md gives, which adds 1 to
 /// the refused count: 30 and 31 for its seconds and its volume, 32, 70, 33 and 71 for a reading without a temperature (IEC 60751), 34 to 39 for its
 /// temperatures, their difference and its flow, 40 and 41 for what it would add. An accepted sample adds its heat or cold in mJ, rounded down
 /// (OIML R 75-1, with the water of IAPWS-IF97), to its own register, its volume in mL to the volume, 1 to the accepted count, and its seconds to

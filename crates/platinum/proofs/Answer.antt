@@ -78,10 +78,6 @@ pub measured_exactly : (n r : ℕ) (m : Result Temperature Unmeasured) → m ≡
 unfolding temperature_of
 measured_exactly n r m e = subst (MeasuredExactly n r) (sym e) (by_name n r (sensor_of n) (named n))
 
--- no answer passes 180.00 °C
-pub within_range : (field r : ℕ) (t : Temperature) → temperature_of field r ≡ Ok t → t.0 ≤ last_hundredth
-within_range field r t e = ((measured_exactly field r _ refl t).0 e).2.in_range
-
 pub larger_reading : LargerReading
 larger_reading n r r' s t h e f =
     let a = (measured_exactly n r _ refl s).0 e in

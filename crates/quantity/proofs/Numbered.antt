@@ -55,7 +55,9 @@ numbered n =
     cond (eqb n 73) R.Profile (
     cond (eqb n 74) R.ReadoutNumber (
     cond (eqb n 75) R.ReadoutShape (
-    R.ReadoutDigit)))))))))))))))))))))))))))))))))))))))))))
+    cond (eqb n 76) R.ReadoutDigit (
+    cond (eqb n 77) R.Pressure (
+    R.FilePressure)))))))))))))))))))))))))))))))))))))))))))))
 
 given_back : (p : Refusal) → numbered (number_of p) ≡ p
 unfolding number_of numbered
@@ -103,6 +105,8 @@ given_back R.Profile = refl
 given_back R.ReadoutNumber = refl
 given_back R.ReadoutShape = refl
 given_back R.ReadoutDigit = refl
+given_back R.Pressure = refl
+given_back R.FilePressure = refl
 
 pub numbers_differ : NumbersDiffer
 numbers_differ p q e = sym (given_back p) ∙ ap numbered e ∙ given_back q

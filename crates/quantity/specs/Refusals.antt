@@ -53,6 +53,8 @@ number_of R.Profile = 73
 number_of R.ReadoutNumber = 74
 number_of R.ReadoutShape = 75
 number_of R.ReadoutDigit = 76
+number_of R.Pressure = 77
+number_of R.FilePressure = 78
 
 -- A row: a refusal, and the condition under which it is given.
 abbrev pub row : Refusal → Bool → Row

@@ -9,7 +9,7 @@ use Rattle.quantity.specs.declared.units.Difference.{Difference}
 abbrev pub last_hundredth : ℕ
 last_hundredth = 18000
 
--- .. its last whole degree, which is the last of the water table too ..
+-- .. its last whole degree, which is the last of the water table at 16 bar too ..
 abbrev pub last_degree : ℕ
 last_degree = 180
 

@@ -15,4 +15,4 @@ pub use fraction::Fraction;
 pub use product::product_less;
 pub use range::{End, Role, end_refusal};
 pub use refusal::{Refusal, Row, first_refusal, is_outside};
-pub use units::{Difference, LARGEST_KELVINS, LAST_DEGREE, LAST_HUNDREDTH, Temperature, Unit};
+pub use units::{Difference, LARGEST_KELVINS, LAST_DEGREE, Temperature, Unit};

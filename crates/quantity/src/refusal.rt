@@ -88,9 +88,10 @@ pub enum Refusal {
     /// 68: the file has more bytes than the caller's limit, which is 65536 in the program; nothing in it was looked at.
     InputSize = 68,
     /// 70: the supply reading, or one that is given by itself, is above that of 180.00 °C, as with a broken lead; or the supply temperature that is
-    /// given is above 180.00 °C.
+    /// given is above the last degree of the water table, 150.00 °C at 6 bar and 180.00 °C at 16 bar.
     SupplyAboveRange = 70,
-    /// 71: the return reading is above that of 180.00 °C, as with a broken lead; or the return temperature that is given is above 180.00 °C.
+    /// 71: the return reading is above that of 180.00 °C, as with a broken lead; or the return temperature that is given is above the
+    /// last degree of the water table, 150.00 °C at 6 bar and 180.00 °C at 16 bar.
     ReturnAboveRange = 71,
     /// 72: of the editions 2 and 3, between which the file is to be moved, one accepts the sample on this line and the other refuses it.
     OneEditionAlone = 72,
@@ -102,10 +103,14 @@ pub enum Refusal {
     ReadoutShape = 75,
     /// 76: a digit of a readout to be read is above nine.
     ReadoutDigit = 76,
+    /// 77: the pressure is neither 6 nor 16 bar; or a card's Θmax is above 150 °C at 6 bar.
+    Pressure = 77,
+    /// 78: a card that is to be written to a file has 6 bar, while files are of meters at 16 bar alone.
+    FilePressure = 78,
 }
 
 impl Refusal {
-    /// The number of this refusal, from 10 to 76. It is a method and no `From`, so that each place that takes the number says so.
+    /// The number of this refusal, from 10 to 78. It is a method and no `From`, so that each place that takes the number says so.
     #[tactic(auto, unfolding(crate::specs::Refusals::number_of))]
     pub fn number(self) -> u64
         ensures { result ≡ number_of self }

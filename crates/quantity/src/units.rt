@@ -6,10 +6,7 @@ ghost use Rattle.std.specs.Ordering.{partial_lt};
 ghost use Rattle.std.proofs.Common.{rules};
 ghost use Rattle.quantity.specs.Units.{is_colder, is_smaller, distance_of};
 
-/// The last temperature of the range, in hundredths of °C: 180.00 °C. A reading above it is refused with 70 or 71.
-pub const LAST_HUNDREDTH: u64 = 18000;
-
-/// The last temperature of the range, in whole °C; the water table ends there.
+/// The last temperature of the range, in whole °C: a reading above it is refused with 70 or 71, and the water table at 16 bar ends there.
 pub const LAST_DEGREE: u64 = 180;
 
 /// The largest difference of two temperatures of the range, in whole kelvins.

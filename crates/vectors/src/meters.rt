@@ -5,12 +5,12 @@ use meter::{Card, Meter, Sample, Stepped};
 use std::io;
 use std::io::Write;
 
-// `M,` the card's twelve fields, the meter's state, then pulses, seconds, supply and return reading: the refusal or 0, then the state
+// `M,` the card's fields, the meter's state, then pulses, seconds, supply and return reading: the refusal or 0, then the state
 // afterwards. A state is heat register, volume, accepted, refused, edition, kept seconds and cold register, in this order, which is not the struct's.
 pub(crate) fn of_state(out: &mut impl Write, line: &[u8]) -> io::Result<()> {
     put_stepped(
         out,
-        meter::step(meter_of(line), Sample::from(numbers(line, 20))),
+        meter::step(meter_of(line), Sample::from(numbers(line, 21))),
     )
 }
 
@@ -24,7 +24,7 @@ pub(crate) fn meter_of(line: &[u8]) -> Meter {
         edition,
         kept_seconds,
         cold_register,
-    ] = numbers::<7>(line, 13);
+    ] = numbers::<7>(line, 14);
     Meter {
         card: Card::from(numbers(line, 1)),
         heat_register,
@@ -61,8 +61,8 @@ fn put_state(out: &mut impl Write, m: Meter) -> io::Result<()> {
     Ok(())
 }
 
-// `F,` the card's twelve fields and the edition: the fresh meter's state, or X and the refusal.
+// `F,` the card's fields and the edition: the fresh meter's state, or X and the refusal.
 pub(crate) fn of_card(out: &mut impl Write, line: &[u8]) -> Result<(), Unanswered> {
-    let m = meter::fresh(Card::from(numbers(line, 1)), number(line, 13))?;
+    let m = meter::fresh(Card::from(numbers(line, 1)), number(line, 14))?;
     Ok(put_state(out, m)?)
 }

@@ -5,14 +5,14 @@ use meter::{QUARTERS, Sample};
 use std::io;
 use std::io::Write;
 
-// `D,` the card's twelve fields, the meter's state, the quarter's index, a cell and what stands in it, all others being zero, then pulses, seconds,
+// `D,` the card's fields, the meter's state, the quarter's index, a cell and what stands in it, all others being zero, then pulses, seconds,
 // supply and return reading: the refusal or 0, then the state and all cells afterwards.
 pub(crate) fn of_quarter(out: &mut impl Write, line: &[u8]) -> io::Result<()> {
-    let [index, cell, value] = numbers::<3>(line, 20);
+    let [index, cell, value] = numbers::<3>(line, 21);
     let profiled = meter::step_in_quarter(
         meter_of(line),
         cells_with(cell, value),
-        Sample::from(numbers(line, 23)),
+        Sample::from(numbers(line, 24)),
         index,
     );
     put_stepped(out, profiled.stepped)?;

@@ -1,32 +1,32 @@
-// The water table and the heat coefficient against outside figures.
+// The water tables and the heat coefficient against outside figures.
 use crate::answers::Unanswered;
 use crate::text::{number, numbers};
 use quantity::{Refusal, Temperature};
 use std::io;
 use std::io::Write;
 
-// `K,ts,tr,place`: K and the coefficient, or X and the refusal.
+// `K,ts,tr,place,pressure`: K and the coefficient, or X and the refusal.
 pub(crate) fn of_pair(out: &mut impl Write, line: &[u8]) -> Result<(), Unanswered> {
     let value = coefficient_of(line)?;
     Ok(write!(out, ",K,{value}")?)
 }
 
-// `Q,ts,tr,place,unit`: the coefficient in a published unit, or X and the refusal.
+// `Q,ts,tr,place,pressure,unit`: the coefficient in a published unit, or X and the refusal.
 pub(crate) fn of_published(out: &mut impl Write, line: &[u8]) -> Result<(), Unanswered> {
     let value = coefficient_of(line)?;
-    Ok(write!(out, ",{}", in_units(value, number(line, 4)))?)
+    Ok(write!(out, ",{}", in_units(value, number(line, 5)))?)
 }
 
-// The coefficient of the two temperatures and the place at the front of a line.
+// The coefficient of the two temperatures, the place and the pressure at the front of a line.
 fn coefficient_of(line: &[u8]) -> Result<u64, Refusal> {
-    let [ts, tr, place] = numbers::<3>(line, 1);
-    water::coefficient(Temperature(ts), Temperature(tr), place)
+    let [ts, tr, place, pressure] = numbers::<4>(line, 1);
+    water::coefficient(Temperature(ts), Temperature(tr), place, pressure)
 }
 
-// `W,degree,unit of enthalpy,unit of volume`: the table's entry, in the units in which the figures are published.
+// `W,degree,pressure,unit of enthalpy,unit of volume`: the entry of the pressure's table, in the units in which the figures are published.
 pub(crate) fn of_degree(out: &mut impl Write, line: &[u8]) -> io::Result<()> {
-    let [degree, enthalpy_unit, volume_unit] = numbers::<3>(line, 1);
-    match water::table_entry(degree) {
+    let [degree, pressure, enthalpy_unit, volume_unit] = numbers::<4>(line, 1);
+    match water::table_entry(degree, pressure) {
         Some(entry) => {
             let enthalpy = in_units(entry.enthalpy, enthalpy_unit);
             let volume = in_units(entry.volume, volume_unit);

@@ -1,5 +1,5 @@
--- The bounds of a water table that the laws of the register rest on, by tests over its entries. Stated for any table and
--- any two lists that are right, and used for the table at 16 bar.
+-- The bounds of a water table that the laws of the register rest on, by tests over its entries. Stated for any table and any two lists that are right,
+-- and used for the tables of both pressures.
 -- Assumes nothing.
 use mathlib.Core.Bool.{Bool}
 use mathlib.Core.List.{List}
@@ -8,10 +8,12 @@ use native.Mathlib.Omega.{arith}
 use lib.Dec.{T, leb, leb→le}
 use lib.ListN.{get_or}
 use Rattle.quantity.proofs.Span.{span, below}
-use Rattle.water.specs.Table.{Table, water}
-use Rattle.water.specs.declared.tables.TheConstants.{ENTHALPY, VOLUME}
-use Rattle.water.proofs.Entries.{Right, water_right}
-use Rattle.water.proofs.Properties.{TableBounds}
+use Rattle.water.specs.Pressure.{last_of}
+use Rattle.water.specs.Table.{Table, table_of}
+use Rattle.water.specs.Theorems.{TableBounds, Bounded}
+use Rattle.water.specs.declared.pressure.Pressure.TheVariants.{Bar6, Bar16}
+use Rattle.water.specs.declared.tables.TheConstants.{ENTHALPY_6, VOLUME_6, ENTHALPY_16, VOLUME_16}
+use Rattle.water.proofs.Entries.{Right, right_6, right_16}
 
 -- the test that f is at most g at the first n numbers
 abbrev pub in_order : (ℕ → ℕ) → (ℕ → ℕ) → ℕ → Bool
@@ -24,25 +26,27 @@ abbrev pub at : List ℕ → ℕ → ℕ
 at xs d = get_or xs d 0
 
 -- a table whose entries pass the four tests is bounded
-pub bounded :
+of_tests :
     (w : Table) (hs vs : List ℕ) → Right w hs vs →
     T (in_order (λ d. at hs d + 4100000) (λ d. at hs (d + 1)) w.last) →
     T (in_order (at hs) (λ d. 800000000) (suc w.last)) →
     T (in_order (λ d. 900000000) (at vs) (suc w.last)) →
     T (in_order (at vs) (λ d. 1130000000) (suc w.last)) →
     TableBounds w
-bounded w hs vs r s t k m = record {
+of_tests w hs vs r s t k m = record {
   grows = λ d l.
       omega (
         arith,
-        r.enthalpy d (omega arith),
-        r.enthalpy (d + 1) (omega arith),
+        r.enthalpy.right d (omega arith),
+        r.enthalpy.right (d + 1) (omega arith),
         in_order_lem (λ d. at hs d + 4100000) (λ d. at hs (d + 1)) w.last s d l,
       );
-  most_enthalpy = λ d l. omega (arith, r.enthalpy d l, in_order_lem (at hs) (λ d. 800000000) (suc w.last) t d (omega arith));
-  least_volume = λ d l. omega (arith, r.volume d l, in_order_lem (λ d. 900000000) (at vs) (suc w.last) k d (omega arith));
-  most_volume = λ d l. omega (arith, r.volume d l, in_order_lem (at vs) (λ d. 1130000000) (suc w.last) m d (omega arith));
+  most_enthalpy = λ d l. omega (arith, r.enthalpy.right d l, in_order_lem (at hs) (λ d. 800000000) (suc w.last) t d (omega arith));
+  least_volume = λ d l. omega (arith, r.volume.right d l, in_order_lem (λ d. 900000000) (at vs) (suc w.last) k d (omega arith));
+  most_volume = λ d l. omega (arith, r.volume.right d l, in_order_lem (at vs) (λ d. 1130000000) (suc w.last) m d (omega arith));
 }
 
-pub water_bounded : TableBounds water
-water_bounded = bounded water ENTHALPY VOLUME water_right tt tt tt tt
+pub bounded : Bounded
+unfolding last_of
+bounded Bar6 = of_tests (table_of Bar6) ENTHALPY_6 VOLUME_6 right_6 tt tt tt tt
+bounded Bar16 = of_tests (table_of Bar16) ENTHALPY_16 VOLUME_16 right_16 tt tt tt tt

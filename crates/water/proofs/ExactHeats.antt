@@ -14,7 +14,8 @@ use Rattle.water.specs.Table.{Table}
 use Rattle.water.specs.Pair.{at_place}
 use Rattle.water.specs.Interpolation.{enthalpy_at}
 use Rattle.water.specs.Heat.{exact_heat, pair_heat}
-use Rattle.water.proofs.Properties.{TableBounds, enthalpy_grows, volume_lies, volume_above_zero}
+use Rattle.water.specs.Theorems.{TableBounds}
+use Rattle.water.proofs.Properties.{enthalpy_grows, volume_lies, volume_above_zero}
 
 -- it is a fraction,
 pub heat_is_fraction : (w : Table) → TableBounds w → (u : ℕ) (warm cold measured : Temperature) → IsFraction (exact_heat w u warm cold measured)

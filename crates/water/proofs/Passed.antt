@@ -17,19 +17,30 @@ use Rattle.quantity.specs.declared.refusal.Row.{Row}
 use Rattle.quantity.specs.Units.{is_colder}
 use Rattle.quantity.specs.Refusals.{first_of}
 use Rattle.quantity.proofs.Rows.{none_applies, parts}
-use Rattle.water.specs.Table.{Table}
+use Rattle.quantity.specs.Units.{last_degree}
+use Rattle.water.specs.Pressure.{last_of}
+use Rattle.water.specs.declared.pressure.Pressure.{Pressure}
+use Rattle.water.specs.declared.pressure.Pressure.TheVariants.{Bar6, Bar16}
+use Rattle.water.specs.Table.{table_for}
 use Rattle.water.specs.Pair.{are_equal, pair_rows}
 
-pub record Passed (w : Table) (ts tr : Temperature) : Type 0 where
-  pub supply : ts.0 ≤ 100 * w.last
-  pub return : tr.0 ≤ 100 * w.last
+-- no table ends above the range of temperatures
+pub last_most : (p : Pressure) → last_of p ≤ last_degree
+unfolding last_of
+last_most Bar6 = omega arith
+last_most Bar16 = omega arith
 
-pub passed : (w : Table) (ts tr : Temperature) (place : ℕ) → first_of (pair_rows w ts tr place) ≡ Ok tt → Passed w ts tr
-passed w ts tr place e =
-    let none = none_applies (pair_rows w ts tr place) e in
+pub record Passed (ts tr : Temperature) (pressure : ℕ) : Type 0 where
+  pub supply : ts.0 ≤ 100 * (table_for pressure).last
+  pub return : tr.0 ≤ 100 * (table_for pressure).last
+
+pub passed : (ts tr : Temperature) (place pressure : ℕ) → first_of (pair_rows ts tr place pressure) ≡ Ok tt → Passed ts tr pressure
+passed ts tr place pressure e =
+    let none = none_applies (pair_rows ts tr place pressure) e in
+    let last = (table_for pressure).last in
     record {
-      supply = omega (arith, ltb-false (w.last * 100) ts.0 none.1.0);
-      return = omega (arith, ltb-false (w.last * 100) tr.0 none.1.1.0);
+      supply = omega (arith, ltb-false (last * 100) ts.0 none.1.1.0);
+      return = omega (arith, ltb-false (last * 100) tr.0 none.1.1.1.0);
     }
 
 -- a supply that is neither the colder nor equal is the warmer

@@ -1,19 +1,12 @@
 -- H and V of a bounded table: what the register's bounds and the 64 bits of the code rest on.
 -- Assumes nothing.
-use Prim.Native.Nat.{ℕ, ◌+◌, ◌-◌, ◌*◌, ◌≤◌, ◌<◌}
+use Prim.Native.Nat.{◌+◌, ◌-◌, ◌*◌, ◌≤◌, ◌<◌}
 use native.Mathlib.Omega.{arith}
 use Rattle.quantity.specs.declared.units.Temperature.{Temperature}
 use Rattle.water.specs.Table.{Table}
 use Rattle.water.specs.Interpolation.{enthalpy_at, volume_at}
+use Rattle.water.specs.Theorems.{TableBounds}
 use Rattle.water.proofs.Interpolated.{lies, apart}
-
--- h in mJ/kg grows by at least 4,100,000 per degree and is at most 800,000,000; v in 10^-12 m³/kg is at least 900,000,000
--- and at most 1,130,000,000
-pub record TableBounds (w : Table) : Type 0 where
-  pub grows : (d : ℕ) → d < w.last → w.specific_enthalpy d + 4100000 ≤ w.specific_enthalpy (d + 1)
-  pub most_enthalpy : (d : ℕ) → d ≤ w.last → w.specific_enthalpy d ≤ 800000000
-  pub least_volume : (d : ℕ) → d ≤ w.last → 900000000 ≤ w.specific_volume d
-  pub most_volume : (d : ℕ) → d ≤ w.last → w.specific_volume d ≤ 1130000000
 
 module _ (w : Table) (k : TableBounds w) where
   -- h grows by at least 4,100,000 mJ/kg per degree: H by as much for each hundredth of a degree

@@ -2,6 +2,7 @@
 -- docs/NOTATION.md explains the signs.
 pub mod Signed
 pub mod If97
+pub mod Pressure
 pub mod Table
 pub mod Interpolation
 pub mod Pair
@@ -9,3 +10,4 @@ pub mod Coefficient
 pub mod Heat
 pub mod Verification
 pub mod Theorems
+pub mod Inside

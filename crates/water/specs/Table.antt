@@ -1,10 +1,14 @@
--- The water table: for each whole degree Celsius, 0 to 180, the specific enthalpy and the specific volume of water at 1.6 MPa, each worked out
--- exactly by IAPWS-IF97 and then rounded once, to the nearest whole number, a half upwards. Pressure and last degree are parameters: `water` alone
--- gives them, and no other definition of an operation names a pressure. docs/FORMAT.md, "Water".
-use Rattle.std.specs.Prelude.{ℕ, ◌^◌, cond, leb, Option, Some, None}
-use Rattle.quantity.specs.Units.{last_degree}
+-- The water tables, one for each pressure: for each whole degree Celsius from 0 to the table's last, the specific enthalpy and the specific volume of
+-- water at its pressure, each worked out exactly by IAPWS-IF97 and then rounded once, to the nearest whole number, a half upwards. Pressure and last
+-- degree are parameters of that rule. docs/FORMAT.md, "Water", and docs/OPERATIONS.md, "Water: tables, heat coefficient, heat of a volume".
+use Rattle.std.specs.Prelude.{ℕ, ◌^◌, cond, leb, Option, Some, None, Result, Ok, Err}
+use Rattle.std.specs.Result.{result_unwrap_or}
+use Rattle.quantity.specs.declared.refusal.Refusal.{Refusal}
 use Rattle.water.specs.Signed.{SignedFraction, decimal_number, ◌⊕◌, ◌⊗◌, nearest}
 use Rattle.water.specs.If97.{enthalpy, volume}
+use Rattle.water.specs.Pressure.{bar_of, last_of, pressure_of}
+use Rattle.water.specs.declared.pressure.Pressure.{Pressure}
+use Rattle.water.specs.declared.pressure.Pressure.TheVariants.{Bar16}
 use Rattle.water.specs.declared.tables.Entry.{Entry}
 
 -- A table: its last degree, and its two entries of each degree, in mJ/kg and in 10^-12 m³/kg.
@@ -29,10 +33,24 @@ volume_entry bar d = nearest (decimal_number (10 ^ 12) 0 ⊗ volume (decimal_num
 abbrev pub table_at : ℕ → ℕ → Table
 table_at bar n = record { last = n; specific_enthalpy = enthalpy_entry bar; specific_volume = volume_entry bar }
 
--- The table that every operation goes by: at 16 bar, which are 1.6 MPa, to 180 °C.
-abbrev pub water : Table
-water = table_at 16 last_degree
+-- The table of a pressure: at 6 bar to 150 °C, at 16 bar to 180 °C.
+abbrev pub table_of : Pressure → Table
+table_of p = table_at (bar_of p) (last_of p)
 
--- The entry of a whole degree; past the last degree there is none.
-unfoldable pub entry_of : Table → ℕ → Option Entry
-entry_of w d = cond (leb d w.last) (Some (record { enthalpy = w.specific_enthalpy d; volume = w.specific_volume d })) None
+-- The pressure by which heat and coefficient are worked out, of a number as it stands on a card. One that names no pressure stands for 16 bar here; both
+-- operations refuse it with 77.
+abbrev pub asked_pressure : ℕ → Pressure
+asked_pressure field = result_unwrap_or (pressure_of field) Bar16
+
+-- The table of that pressure.
+abbrev pub table_for : ℕ → Table
+table_for field = table_of (asked_pressure field)
+
+-- The entry of a whole degree in the table of a pressure that was named. Past the table's last degree there is none, and none where no pressure was.
+abbrev pub entry_at : ℕ → Result Pressure Refusal → Option Entry
+entry_at d (Ok p) = cond (leb d (last_of p)) (Some (record { enthalpy = (table_of p).specific_enthalpy d; volume = (table_of p).specific_volume d })) None
+entry_at d (Err r) = None
+
+-- The same of a number as it stands on a card.
+unfoldable pub entry_of : ℕ → ℕ → Option Entry
+entry_of d field = entry_at d (pressure_of field)

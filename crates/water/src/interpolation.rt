@@ -1,39 +1,42 @@
-// H(t) and V(t): 100 times what lies between two entries of the table.
+// H(t) and V(t): 100 times what lies between two entries of a table.
 ghost use Rattle.std.specs.Prelude.{◌≡◌, ◌+◌, ◌-◌, ◌*◌, ◌<◌, ◌≤◌, length, get_or};
-ghost use Rattle.quantity.specs.Units.{last_hundredth};
-ghost use Rattle.water.specs.Table.{water};
+ghost use Rattle.water.specs.Pressure.{last_of};
+ghost use Rattle.water.specs.Table.{table_of};
 ghost use Rattle.water.specs.Interpolation.{interpolated, enthalpy_at, volume_at};
 
-use crate::tables::{ENTHALPY, VOLUME};
+use crate::pressure::Pressure;
 use quantity::Temperature;
 
-// Water at a temperature of the range: H in 10^-2 mJ/kg and V in 10^-14 m³/kg, with the bounds that keep the code's products in range.
+// Water at a pressure and at a temperature of its table: H in 10^-2 mJ/kg and V in 10^-14 m³/kg, with the bounds that keep the code's products in range.
 #[derive(Clone, Copy)]
 pub(crate) struct WaterAt {
+    pub(crate) pressure: Pressure,
     pub(crate) temperature: Temperature,
     pub(crate) enthalpy: u64,
     pub(crate) volume: u64,
-    ghost in_table: { temperature.0 ≤ last_hundredth },
-    ghost is_enthalpy: { enthalpy ≡ enthalpy_at water temperature },
-    ghost is_volume: { volume ≡ volume_at water temperature },
+    ghost in_table: { temperature.0 ≤ 100 * last_of pressure },
+    ghost is_enthalpy: { enthalpy ≡ enthalpy_at (table_of pressure) temperature },
+    ghost is_volume: { volume ≡ volume_at (table_of pressure) temperature },
     ghost most_enthalpy: { enthalpy ≤ 80000000000 },
     ghost least_volume: { 90000000000 ≤ volume },
     ghost most_volume: { volume ≤ 113000000000 },
 }
 
-// The water at a temperature. What is done with it need not ask again whether the table has the temperature.
-pub(crate) fn water_at(temperature: Temperature) -> WaterAt
-    requires { temperature.0 ≤ last_hundredth }
-    ensures { result.temperature ≡ temperature }
+// The water at a pressure and a temperature. What is done with it need not ask again whether the table has the temperature.
+pub(crate) fn water_at(pressure: Pressure, temperature: Temperature) -> WaterAt
+    requires { temperature.0 ≤ 100 * last_of pressure }
+    ensures { (result.pressure ≡ pressure) × (result.temperature ≡ temperature) }
 {
+    let (enthalpies, volumes) = pressure.columns();
     WaterAt {
+        pressure,
         temperature,
-        enthalpy: interpolate(&ENTHALPY, temperature.0),
-        volume: interpolate(&VOLUME, temperature.0),
+        enthalpy: interpolate(enthalpies, temperature.0),
+        volume: interpolate(volumes, temperature.0),
     }
 }
 
-// Of the entries of either array, at hundredths of a degree.
+// Of the entries of any of the arrays, at hundredths of a degree.
 #[tactic(auto, using(crate::proofs::Interpolated::below_last, crate::proofs::Interpolated::from_last))]
 fn interpolate(entries: &[u32], t: u64) -> u64
     requires { t < 100 * length entries.now }
@@ -54,10 +57,10 @@ fn mixed(low: u32, high: u32, f: u64) -> u64
     (100 - f) * u64::from(low) + f * u64::from(high)
 }
 
-// H(warm) − H(cold), in 10^-2 mJ/kg.
+// H(warm) − H(cold), in 10^-2 mJ/kg, at one pressure.
 pub(crate) fn enthalpy_rise(warm: WaterAt, cold: WaterAt) -> u64
-    requires { cold.temperature.0 ≤ warm.temperature.0 }
-    ensures { result ≡ enthalpy_at water warm.temperature - enthalpy_at water cold.temperature }
+    requires { (cold.pressure ≡ warm.pressure) × (cold.temperature.0 ≤ warm.temperature.0) }
+    ensures { result ≡ enthalpy_at (table_of warm.pressure) warm.temperature - enthalpy_at (table_of warm.pressure) cold.temperature }
 {
     warm.enthalpy - cold.enthalpy
 }

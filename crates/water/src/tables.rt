@@ -1,11 +1,14 @@
-// The water table at 1.6 MPa, from 0 to 180 °C (docs/FORMAT.md, "Water").
+// The water tables: at 6 bar from 0 to 150 °C, and at 16 bar from 0 to 180 °C (docs/FORMAT.md, "Water", and for 6 bar
+// docs/OPERATIONS.md, "Water: tables, heat coefficient, heat of a volume").
 ghost use Rattle.std.specs.Prelude.{◌≡◌};
-ghost use Rattle.water.specs.Table.{water, entry_of};
+ghost use Rattle.water.specs.Pressure.{last_of};
+ghost use Rattle.water.specs.Table.{table_of, entry_of};
+ghost use Rattle.water.specs.Inside.Columns.{Holds};
 
+use crate::pressure::Pressure;
 use quantity::LAST_DEGREE;
 
-/// An entry of the water table: what IAPWS-IF97 gives for a whole degree and a pressure of 1.6 MPa, rounded to the nearest whole number, a half
-/// upwards.
+/// An entry of a water table: what IAPWS-IF97 gives for a whole degree at the table's pressure, rounded to the nearest whole number, a half upwards.
 #[derive(Clone, Copy, Debug, PartialEq, Eq)]
 pub struct Entry {
     /// specific enthalpy, in mJ/kg
@@ -15,10 +18,60 @@ pub struct Entry {
 }
 
 // One for each whole degree from 0 to the last.
-const ENTRIES: usize = LAST_DEGREE as usize + 1;
+const ENTRIES_6: usize = Pressure::LAST_AT_6_BAR as usize + 1;
 
-// Specific enthalpy in mJ/kg, by the degree. It has an array of its own, as the volume has, so that one function interpolates in either.
-pub(crate) const ENTHALPY: [u32; ENTRIES] = [
+const ENTRIES_16: usize = LAST_DEGREE as usize + 1;
+
+// Enthalpy and volume have an array each, so that one function interpolates in either.
+
+// At 6 bar, by the degree: the specific enthalpy in mJ/kg ..
+const ENTHALPY_6: [u32; ENTRIES_6] = [
+    568792, 4784043, 8996096, 13205219, 17411656, 21615627, 25817334, 30016961, 34214674, 38410625,
+    42604954, 46797786, 50989238, 55179416, 59368418, 63556333, 67743242, 71929222, 76114343,
+    80298670, 84482262, 88665176, 92847464, 97029174, 101210351, 105391040, 109571281, 113751112,
+    117930568, 122109686, 126288498, 130467035, 134645329, 138823409, 143001302, 147179038,
+    151356641, 155534139, 159711557, 163888919, 168066251, 172243576, 176420918, 180598300,
+    184775746, 188953277, 193130917, 197308688, 201486612, 205664710, 209843006, 214021519,
+    218200273, 222379289, 226558587, 230738190, 234918118, 239098393, 243279036, 247460067,
+    251641509, 255823381, 260005705, 264188502, 268371792, 272555597, 276739936, 280924832,
+    285110304, 289296373, 293483061, 297670387, 301858372, 306047038, 310236404, 314426492,
+    318617321, 322808913, 327001288, 331194467, 335388470, 339583318, 343779032, 347975633,
+    352173140, 356371576, 360570960, 364771313, 368972656, 373175011, 377378397, 381582836,
+    385788348, 389994956, 394202680, 398411541, 402621560, 406832759, 411045159, 415258781,
+    419473648, 423689781, 427907202, 432125932, 436345995, 440567410, 444790202, 449014393,
+    453240005, 457467060, 461695582, 465925594, 470157119, 474390180, 478624800, 482861004,
+    487098816, 491338259, 495579358, 499822137, 504066621, 508312836, 512560806, 516810556,
+    521062113, 525315503, 529570751, 533827885, 538086931, 542347915, 546610867, 550875812,
+    555142780, 559411798, 563682896, 567956101, 572231444, 576508954, 580788662, 585070597,
+    589354790, 593641273, 597930077, 602221234, 606514777, 610810738, 615109151, 619410049,
+    623713467, 628019439, 632328000,
+];
+
+// .. and the specific volume in 10^-12 m³/kg.
+const VOLUME_6: [u32; ENTRIES_6] = [
+    999902158, 999845365, 999806138, 999783881, 999778037, 999788081, 999813521, 999853891,
+    999908755, 999977702, 1000060344, 1000156313, 1000265264, 1000386870, 1000520820, 1000666823,
+    1000824599, 1000993886, 1001174433, 1001366003, 1001568371, 1001781322, 1002004652, 1002238167,
+    1002481681, 1002735018, 1002998009, 1003270495, 1003552320, 1003843339, 1004143411, 1004452403,
+    1004770186, 1005096636, 1005431637, 1005775075, 1006126843, 1006486837, 1006854958, 1007231109,
+    1007615201, 1008007144, 1008406855, 1008814253, 1009229260, 1009651801, 1010081805, 1010519203,
+    1010963928, 1011415917, 1011875108, 1012341444, 1012814868, 1013295326, 1013782765, 1014277137,
+    1014778392, 1015286486, 1015801373, 1016323013, 1016851365, 1017386389, 1017928049, 1018476310,
+    1019031137, 1019592498, 1020160363, 1020734702, 1021315488, 1021902693, 1022496293, 1023096263,
+    1023702581, 1024315226, 1024934177, 1025559416, 1026190926, 1026828688, 1027472689, 1028122914,
+    1028779350, 1029441984, 1030110806, 1030785806, 1031466974, 1032154304, 1032847788, 1033547420,
+    1034253195, 1034965110, 1035683162, 1036407348, 1037137667, 1037874120, 1038616707, 1039365431,
+    1040120292, 1040881296, 1041648446, 1042421749, 1043201209, 1043986835, 1044778634, 1045576615,
+    1046380788, 1047191164, 1048007753, 1048830569, 1049659624, 1050494933, 1051336510, 1052184372,
+    1053038535, 1053899017, 1054765835, 1055639010, 1056518561, 1057404510, 1058296878, 1059195688,
+    1060100964, 1061012731, 1061931013, 1062855837, 1063787231, 1064725222, 1065669839, 1066621113,
+    1067579075, 1068543755, 1069515188, 1070493406, 1071478445, 1072470340, 1073469127, 1074474845,
+    1075487531, 1076507226, 1077533970, 1078567804, 1079608772, 1080656917, 1081712284, 1082774918,
+    1083844867, 1084922179, 1086006903, 1087099089, 1088198789, 1089306055, 1090420941,
+];
+
+// At 16 bar, by the degree: the specific enthalpy in mJ/kg ..
+const ENTHALPY_16: [u32; ENTRIES_16] = [
     1585887, 5796270, 10003604, 14208149, 18410140, 22609790, 26807293, 31002825, 35196546,
     39388604, 43579132, 47768250, 51956070, 56142693, 60328214, 64512717, 68696280, 72878976,
     77060873, 81242031, 85422507, 89602356, 93781626, 97960364, 102138613, 106316415, 110493807,
@@ -44,8 +97,8 @@ pub(crate) const ENTHALPY: [u32; ENTRIES] = [
     759088160, 763489075,
 ];
 
-// Specific volume in 10^-12 m³/kg, by the degree.
-pub(crate) const VOLUME: [u32; ENTRIES] = [
+// .. and the specific volume in 10^-12 m³/kg.
+const VOLUME_16: [u32; ENTRIES_16] = [
     999394952, 999341893, 999306234, 999287387, 999284799, 999297954, 999326362, 999369567,
     999427136, 999498663, 999583764, 999682078, 999793261, 999916992, 1000052963, 1000200886,
     1000360486, 1000531502, 1000713687, 1000906808, 1001110641, 1001324975, 1001549607, 1001784345,
@@ -71,15 +124,30 @@ pub(crate) const VOLUME: [u32; ENTRIES] = [
     1121467629, 1122806552, 1124155064, 1125513261, 1126881244,
 ];
 
-/// The entry of the water table at a whole degree Celsius, or none past the last, 180 (docs/OPERATIONS.md, "Water: table, heat coefficient, heat of a
-/// volume"). Nothing is refused.
-#[tactic(auto, using(crate::proofs::Entries::entry_at), unfolding(crate::specs::Table::entry_of))]
-pub fn table_entry(degree: u64) -> Option<Entry>
-    ensures { result ≡ entry_of water degree }
+impl Pressure {
+    // The two arrays of its table: the enthalpies, and the volumes.
+    pub(crate) fn columns(self) -> (&'static [u32], &'static [u32])
+        ensures enthalpies { Holds (table_of self).specific_enthalpy (last_of self) result.0.now }
+        ensures volumes { Holds (table_of self).specific_volume (last_of self) result.1.now }
+    {
+        match self {
+            Pressure::Bar6 => (&ENTHALPY_6, &VOLUME_6),
+            Pressure::Bar16 => (&ENTHALPY_16, &VOLUME_16),
+        }
+    }
+}
+
+/// The entry at a whole degree Celsius of the water table at a pressure in bar, 6 or 16. There is none past the table's last degree, which is 150 at
+/// 6 bar and 180 at 16 bar, and none at another pressure (docs/OPERATIONS.md, "Water: tables, heat coefficient, heat of a volume"). Nothing is
+/// refused.
+pub fn table_entry(degree: u64, pressure: u64) -> Option<Entry>
+    ensures { result ≡ entry_of degree pressure }
 {
+    let pressure = Pressure::try_from(pressure).ok()?;
+    let (enthalpies, volumes) = pressure.columns();
     let d = degree as usize;
     Some(Entry {
-        enthalpy: u64::from(*ENTHALPY.get(d)?),
-        volume: u64::from(*VOLUME.get(d)?),
+        enthalpy: u64::from(*enthalpies.get(d)?),
+        volume: u64::from(*volumes.get(d)?),
     })
 }

@@ -1,6 +1,6 @@
 // The heat of a volume, and the cold of one (docs/FORMAT.md, "Heat and cold").
 ghost use Rattle.std.specs.Prelude.{◌≡◌, ◌≤◌};
-ghost use Rattle.water.specs.Table.{water};
+ghost use Rattle.water.specs.Table.{table_of};
 ghost use Rattle.quantity.specs.Fractions.{floored};
 ghost use Rattle.quantity.specs.Refusals.{refusal_number, first_number};
 ghost use Rattle.water.specs.Heat.{most_millilitres, pair_heat, heat_rows, heat_of};
@@ -14,22 +14,34 @@ use quantity::{Refusal, Temperature, first_refusal};
 pub const MOST_MILLILITRES: u64 = 1000000;
 
 /// The heat in mJ, rounded down, of u mL of water between a supply and a return temperature, both in hundredths of °C (OIML R 75-1), or its cold
-/// where the supply is the colder, with the volume measured at a place, 1 supply or 2 return. It refuses another place (11), a supply above
-/// 180.00 °C (70), a return above it (71), and more than a million mL (31), the first of these that applies. Any numbers are answered: so it takes
-/// the three apart.
-pub fn heat(u: u64, ts: Temperature, tr: Temperature, place: u64) -> Result<u64, Refusal>
-    ensures answer { result ≡ heat_of water u ts tr place }
-    ensures number { refusal_number result ≡ first_number (heat_rows water u ts tr place) }
-    ensures heat_exactly { HeatExactly water u ts tr place result }
+/// where the supply is the colder, with the volume measured at a place, 1 supply or 2 return, at a pressure of 6 or 16 bar. It refuses another place
+/// (11), another pressure (77), a supply above the last degree of the pressure's table, 150.00 °C at 6 bar and 180.00 °C at 16 bar (70), a return
+/// above it (71), and more than a million mL (31), the first of these that applies. Any numbers are answered: so it takes the five apart.
+pub fn heat(
+    u: u64,
+    ts: Temperature,
+    tr: Temperature,
+    place: u64,
+    pressure: u64,
+) -> Result<u64, Refusal>
+    ensures answer { result ≡ heat_of u ts tr place pressure }
+    ensures number { refusal_number result ≡ first_number (heat_rows u ts tr place pressure) }
+    ensures heat_exactly { HeatExactly u ts tr place pressure result }
 {
-    heat_by_rows(u, ts, tr, place)
+    heat_by_rows(u, ts, tr, place, pressure)
 }
 
 // Its answer alone, by the rows that may refuse it.
-fn heat_by_rows(u: u64, ts: Temperature, tr: Temperature, place: u64) -> Result<u64, Refusal>
-    ensures { result ≡ heat_of water u ts tr place }
+fn heat_by_rows(
+    u: u64,
+    ts: Temperature,
+    tr: Temperature,
+    place: u64,
+    pressure: u64,
+) -> Result<u64, Refusal>
+    ensures { result ≡ heat_of u ts tr place pressure }
 {
-    let pair = Pair::new(ts, tr, place)?;
+    let pair = Pair::new(ts, tr, place, pressure)?;
     first_refusal(&[Refusal::Volume.when(MOST_MILLILITRES < u)])?;
     Ok(pair.floored_heat(u))
 }
@@ -39,7 +51,7 @@ impl Pair {
     #[tactic(auto, unfolding(crate::specs::Heat::exact_heat, crate::specs::Heat::pair_heat))]
     fn floored_heat(self, u: u64) -> u64
         requires { u ≤ most_millilitres }
-        ensures { result ≡ floored (pair_heat water u self.supply_water.temperature self.return_water.temperature self.place) }
+        ensures { result ≡ floored (pair_heat (table_of self.supply_water.pressure) u self.supply_water.temperature self.return_water.temperature self.place) }
     {
         let rise = if self.supply_water.temperature < self.return_water.temperature {
             enthalpy_rise(self.return_water, self.supply_water)

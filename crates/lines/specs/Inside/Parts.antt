@@ -3,10 +3,9 @@
 use Rattle.std.specs.Prelude.{◌≡◌, ℕ, zero, suc, ◌+◌, ◌/◌, ◌%◌, cond, List, [], ◌∷◌, ◌++◌, Option, Some, None, Result, Ok, Err, eqb, length, take, drop}
 use Rattle.quantity.specs.Refusals.{first_of}
 use Rattle.quantity.specs.declared.refusal.Refusal.{Refusal}
-use Rattle.meter.specs.Card.{card_fields}
 use Rattle.lines.specs.Bytes.{comma, digit_zero}
 use Rattle.lines.specs.Number.{is_digit, most_digits, is_number, value_of}
-use Rattle.lines.specs.Line.{totals_fields, LineKind, kind_of, count_of, all_numbers_of, in_edition, content_rows, line_of}
+use Rattle.lines.specs.Line.{card_line_fields, totals_fields, LineKind, kind_of, count_of, all_numbers_of, in_edition, content_rows, line_of}
 use Rattle.lines.specs.Reading.{shape_rows, numbers_in, size_of, answer_of}
 use Rattle.lines.specs.declared.line.EditionLine.{EditionLine}
 use Rattle.lines.specs.declared.number.Number.{Number}
@@ -65,7 +64,7 @@ last_digits (suc k) n = last_digits k (n / 10) ++ ((digit_zero + n % 10) ∷ [])
 
 -- the most numbers of any line: the card's line has them
 abbrev pub most_numbers : ℕ
-most_numbers = card_fields
+most_numbers = card_line_fields
 
 -- The numbers that a line can have, in two parts: those that stand on it, which come first, and those that its edition lacks.
 pub record Parted : Type 0 where

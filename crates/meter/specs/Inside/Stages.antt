@@ -6,6 +6,9 @@ use Rattle.quantity.specs.Units.{last_degree, largest_kelvins}
 use Rattle.meter.specs.Edition.{is_other_edition}
 use Rattle.meter.specs.State.{largest_register, largest_volume, largest_count, most_seconds}
 use Rattle.quantity.specs.Fractions.{floored}
+use Rattle.std.specs.Result.{is_err}
+use Rattle.water.specs.Pressure.{pressure_of}
+use Rattle.water.specs.Table.{table_for}
 use Rattle.water.specs.Heat.{most_millilitres}
 use Rattle.meter.specs.Sample.{volume_of, sample_heat}
 use Rattle.meter.specs.Register.{register_of, own_register}
@@ -27,6 +30,7 @@ pub record AcceptedCard (c : Card) : Type 0 where
   pub flow : c.qs ≤ 10 ^ 9
   pub flows : (c.qi ≤ c.qp) × (c.qp ≤ c.qs)
   pub power : (1 ≤ c.ps) × (c.ps ≤ 10 ^ 9)
+  pub pressure : (is_err (pressure_of c.pressure) ≡ false) × (c.theta_max ≤ (table_for c.pressure).last)
 
 -- Of a state that neither 20 nor 21 refuses: its totals are within their limits, with room for one count more, and fit its edition.
 pub record AcceptedState (m : Meter) : Type 0 where

@@ -1,6 +1,6 @@
 -- A line that was read takes no more bytes than there are; and what is promised of the answer is promised of what stands at the front.
 use Rattle.std.proofs.Common.{◌∙◌, sym, rules}
-use Rattle.lines.proofs.Exactness.{read_number, refused_exactly}
+use Rattle.lines.proofs.Exactness.{read_number, refused_exactly, never_for_pressure}
 use Rattle.lines.proofs.RoundTrips.{front_within, read_within}
 use Rattle.lines.proofs.reading.read_line.Goals as goal
 
@@ -18,6 +18,9 @@ returns-clause-number c = read_number _ _ _ (returns-clause-front c)
 
 pub returns-clause-refused_exactly : goal.returns-clause-refused_exactly
 returns-clause-refused_exactly c = refused_exactly _ _ _ (returns-clause-front c)
+
+pub returns-clause-never_for_pressure : goal.returns-clause-never_for_pressure
+returns-clause-never_for_pressure c = never_for_pressure _ _ _ (returns-clause-front c)
 
 pub returns-clause-read_within : goal.returns-clause-read_within
 returns-clause-read_within c = read_within _ _ _ (returns-clause-front c)

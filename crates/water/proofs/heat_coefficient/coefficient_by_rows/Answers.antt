@@ -26,5 +26,5 @@ pub returns : goal.returns
 unfolding coefficient_of
 returns c =
     let p = c.in_ok-pair.ensures.pair in
-    rw (rw (p.0, p.1, p.2) at c.floored_coefficient.ensures)
+    rw (rw (p.0, p.1, p.2, p.3) at c.floored_coefficient.ensures)
     (neither_refuses _ _ _ c.in_ok-pair.ensures.rows (sym c.order_refusal.ensures ∙ c.in_ok-order_refusal.was))

@@ -1,11 +1,14 @@
 -- The warmer has not the smaller enthalpy.
-use Rattle.std.proofs.Common.{arith}
-use Rattle.water.specs.Table.{water}
-use Rattle.water.proofs.Bounds.{water_bounded}
+use Rattle.std.proofs.Common.{arith, ◌≡◌}
+use Rattle.water.specs.Table.{table_of}
+use Rattle.water.specs.Interpolation.{enthalpy_at}
+use Rattle.water.proofs.Bounds.{bounded}
 use Rattle.water.proofs.Properties.{enthalpy_in_order}
 use Rattle.water.proofs.interpolation.enthalpy_rise.Goals as goal
 
 pub overflow_sub-result : goal.overflow_sub-result
 overflow_sub-result c =
     let w = c.args.warm in
-    omega (arith, enthalpy_in_order water water_bounded w.temperature c.args.cold.temperature c.requires w.in_table)
+    let k = c.args.cold in
+    let same : k.enthalpy ≡ enthalpy_at (table_of w.pressure) k.temperature = rw c.requires.0 at k.is_enthalpy in
+    omega (arith, same, enthalpy_in_order (table_of w.pressure) (bounded w.pressure) w.temperature k.temperature c.requires.1 w.in_table)

@@ -24,5 +24,5 @@ pub returns : goal.returns
 unfolding heat_of
 returns c =
     let p = c.in_ok-pair.ensures.pair in
-    rw (rw (p.0, p.1, p.2) at c.floored_heat.ensures)
+    rw (rw (p.0, p.1, p.2, p.3) at c.floored_heat.ensures)
     (neither_refuses _ _ _ c.in_ok-pair.ensures.rows (rw c.when.ensures at (sym c.first_refusal.ensures.answer ∙ c.in_ok-first_refusal.was)))

@@ -1,4 +1,4 @@
--- A list of twelve is the list of its elements.
+-- A list of thirteen is the list of its elements.
 use Rattle.std.proofs.Common.{rules}
 use Rattle.meter.specs.Card.{card_fields, fields_of}
 use Rattle.meter.proofs.Elements.{all}
