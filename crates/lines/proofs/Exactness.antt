@@ -18,6 +18,7 @@ use Rattle.lines.specs.Reading.{same_bytes, size_of, first_in, others_in, number
 use Rattle.lines.specs.RoundTrip.{is_no_line, is_misshapen_due, Cause, other_edition, misshapen, no_number, card_row}
 use Rattle.lines.specs.Theorems.{RefusedExactly, NeverForPressure}
 use Rattle.lines.specs.declared.line.EditionLine.{EditionLine}
+use Rattle.lines.specs.declared.line.Layout.{Layout}
 use Rattle.lines.specs.declared.line.MayCome.{MayCome}
 use Rattle.lines.specs.declared.line.Front.{Front}
 use Rattle.lines.specs.declared.line.MayCome.TheVariants as M
@@ -49,11 +50,11 @@ which false true n later r e = subst (λ (k : Refusal). Which false true n later
 which false false false later r e = subst (λ (k : Refusal). Which false false false later k) (cc e) (by_number refl refl refl)
 which false false true later r e = by_later r refl refl refl e
 
-card_other : (e : ℕ) → M.Card e ≡ M.Opening → ⊥
-card_other e o = let z : ◌≡◌ {A = ℕ} 0 1 = cc o in omega arith
+card_other : (e : ℕ) (w : Layout) → M.Card e ≡ M.Opening w → ⊥
+card_other e w o = let z : ◌≡◌ {A = ℕ} 0 1 = cc o in omega arith
 
-later_other : (e : ℕ) → M.SampleOrEnd e ≡ M.Opening → ⊥
-later_other e o = let z : ◌≡◌ {A = ℕ} 0 1 = cc o in omega arith
+later_other : (e : ℕ) (w : Layout) → M.SampleOrEnd e ≡ M.Opening w → ⊥
+later_other e w o = let z : ◌≡◌ {A = ℕ} 0 1 = cc o in omega arith
 
 -- ---- which line is due: the opening, a card's line, or a sample's or the last
 
@@ -63,12 +64,12 @@ module _ (bs : List ℕ) where
 
   -- the opening has no row but the edition's
   numbers_due : MayCome → Bool
-  numbers_due M.Opening = true
+  numbers_due (M.Opening w) = true
   numbers_due (M.Card e) = are_numbers (others_in bs)
   numbers_due (M.SampleOrEnd e) = are_numbers (others_in bs)
 
   later : MayCome → Result Unit Refusal
-  later M.Opening = Ok tt
+  later (M.Opening w) = Ok tt
   later (M.Card e) = first_of (card_rows (card_of (numbers_in bs)))
   later (M.SampleOrEnd e) = Ok tt
 
@@ -83,7 +84,7 @@ module _ (bs : List ℕ) where
 
   due_rows : (may : MayCome) → first_of (read_rows may bs) ≡ rows (other may) (is_misshapen_due may bs) (numbers_due may) (later may)
   unfolding read_rows later_rows line_rows first_of shape_rows rows other is_no_line numbers_due later edition_in line_of due_kind content_rows
-  due_rows M.Opening = refl
+  due_rows (M.Opening w) = refl
   due_rows (M.Card e) = refl
   due_rows (M.SampleOrEnd e) = go (same_bytes (first_in bs) (first_field totals)) refl
     where
@@ -96,13 +97,13 @@ module _ (bs : List ℕ) where
   cause : (may : MayCome) (r : Refusal) → Which (other may) (is_misshapen_due may bs) (numbers_due may) (later may) r → Cause bs may r
   unfolding other numbers_due later edition_in
   cause may r (by_edition o) = other_edition o
-  cause M.Opening r (by_shape o m) = absurd (let z : ◌≡◌ {A = ℕ} 0 1 = cc m in omega arith)
+  cause (M.Opening w) r (by_shape o m) = absurd (let z : ◌≡◌ {A = ℕ} 0 1 = cc m in omega arith)
   cause (M.Card e) r (by_shape o m) = misshapen o m
   cause (M.SampleOrEnd e) r (by_shape o m) = misshapen o m
-  cause M.Opening r (by_number o m n) = absurd (let z : ◌≡◌ {A = ℕ} 0 1 = cc n in omega arith)
+  cause (M.Opening w) r (by_number o m n) = absurd (let z : ◌≡◌ {A = ℕ} 0 1 = cc n in omega arith)
   cause (M.Card e) r (by_number o m n) = no_number (card_other e) o m n
   cause (M.SampleOrEnd e) r (by_number o m n) = no_number (later_other e) o m n
-  cause M.Opening r (by_later k o m n h) = absurd (let z : ◌≡◌ {A = ℕ} 0 1 = cc h in omega arith)
+  cause (M.Opening w) r (by_later k o m n h) = absurd (let z : ◌≡◌ {A = ℕ} 0 1 = cc h in omega arith)
   cause (M.Card e) r (by_later k o m n h) = card_row e k o m n h
   cause (M.SampleOrEnd e) r (by_later k o m n h) = absurd (let z : ◌≡◌ {A = ℕ} 0 1 = cc h in omega arith)
 
@@ -111,7 +112,7 @@ module _ (bs : List ℕ) where
   unfolding rows other numbers_due later edition_in
   refusal may r (other_edition o) = rw o
   refusal may r (misshapen o m) = rw (o, m)
-  refusal M.Opening r (no_number q o m n) = absurd (q refl)
+  refusal (M.Opening w) r (no_number q o m n) = absurd (q w refl)
   refusal (M.Card e) r (no_number q o m n) = rw (o, m, n)
   refusal (M.SampleOrEnd e) r (no_number q o m n) = rw (o, m, n)
   refusal may r (card_row e k o m n h) = rw (o, m, n) h

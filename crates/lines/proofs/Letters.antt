@@ -86,7 +86,7 @@ other_first e k b after c h =
 -- zeros after a line's numbers change nothing
 pub padded : (k : LineKind) (ns zs : List ℕ) → AreZero zs → line_of k (ns ++ zs) ≡ line_of k ns
 unfolding line_of card_at
-padded opening ns zs z = refl
+padded (opening w) ns zs z = refl
 padded card ns zs z = simp (zero_after ns zs z)
 padded sample ns zs z = simp (zero_after ns zs z)
 padded totals ns zs z = simp (zero_after ns zs z)

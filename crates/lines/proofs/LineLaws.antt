@@ -16,9 +16,11 @@ use Rattle.meter.specs.Sample.{sample_numbers}
 use Rattle.meter.specs.declared.sample.Sample.{Sample}
 use Rattle.meter.proofs.Elements.{all as all-elements}
 use Rattle.lines.specs.Number.{some_nonzero}
-use Rattle.lines.specs.Line.{LineKind, opening, card, sample, totals, card_line_fields, file_pressure, totals_fields, kind_of, first_field, all_numbers_of, numbers_of, lacked_of, count_of, in_edition, has_other_pressure, card_at, sample_from, line_of}
+use Rattle.lines.specs.Line.{LineKind, opening, card, sample, totals, word_of, card_line_fields, file_pressure, totals_fields, kind_of, first_field, all_numbers_of, numbers_of, lacked_of, count_of, in_edition, has_other_pressure, card_at, sample_from, line_of}
 use Rattle.lines.specs.Inside.Parts.{most_later}
 use Rattle.lines.specs.Theorems.{TellsAll}
+use Rattle.lines.specs.declared.line.Layout.{Layout}
+use Rattle.lines.specs.declared.line.Layout.TheVariants.{Lines, Columns}
 use Rattle.lines.specs.declared.line.Line.{Line}
 use Rattle.lines.specs.declared.line.Line.TheVariants as L
 use Rattle.lines.specs.declared.line.EditionLine.{EditionLine}
@@ -59,7 +61,7 @@ unfolding line_of kind_of count_of all_numbers_of numbers_of lacked_of has_other
 line_of_lem l h = by l.edition l.line h
   where
     by : (e : ℕ) (line : Line) → TellsAll (in_edition e line) → line_of (kind_of line) (numbers_of (in_edition e line)) ≡ line
-    by e L.Opening h = refl
+    by e (L.Opening w) h = refl
     by e (L.Card c) h = ap L.Card (sym (at_file_pressure c h.pressure))
     by e (L.Sample s) h = refl
     by e (L.End t) h =
@@ -82,14 +84,14 @@ unfolding kind_of count_of all_numbers_of numbers_of fields_of sample_numbers
 numbers_counted l = by l.edition l.line
   where
     by : (e : ℕ) (line : Line) → length (numbers_of (in_edition e line)) ≡ count_of e (kind_of line)
-    by e L.Opening = refl
+    by e (L.Opening w) = refl
     by e (L.Card c) = refl
     by e (L.Sample s) = refl
     by e (L.End t) = length-take-le (count_of e totals) (all_numbers_of (in_edition e (L.End t))) (totals_few e)
 
 pub kind_line : (k : LineKind) (ns : List ℕ) → kind_of (line_of k ns) ≡ k
 unfolding kind_of line_of
-kind_line opening ns = refl
+kind_line (opening w) ns = refl
 kind_line card ns = refl
 kind_line sample ns = refl
 kind_line totals ns = refl
@@ -101,9 +103,9 @@ unfolding numbers_of lacked_of all_numbers_of kind_of line_of
 totals_line e ns c = shown_first ns 0 (count_of e totals) most_later (omega arith) (totals_few e)
 
 -- LAW: the numbers of the line of a kind are those that it was made of. The opening's is its edition.
-pub numbers_line : (e : ℕ) (k : LineKind) (ns : List ℕ) → (k ≡ opening → ns ≡ e ∷ []) → length ns ≡ count_of e k → numbers_of (in_edition e (line_of k ns)) ≡ ns
+pub numbers_line : (e : ℕ) (k : LineKind) (ns : List ℕ) → ((w : Layout) → k ≡ opening w → ns ≡ e ∷ []) → length ns ≡ count_of e k → numbers_of (in_edition e (line_of k ns)) ≡ ns
 unfolding numbers_of all_numbers_of kind_of line_of count_of card_at fields_of sample_numbers
-numbers_line e opening ns h c = sym (h refl)
+numbers_line e (opening w) ns h c = sym (h w refl)
 numbers_line e card ns h c = all-elements ns (count_of e card) c
 numbers_line e sample ns h c = all-elements ns (count_of e sample) c
 numbers_line e totals ns h c = (totals_line e ns c).0
@@ -111,14 +113,15 @@ numbers_line e totals ns h c = (totals_line e ns c).0
 -- and its bytes tell all of it
 pub line_tells_all : (e : ℕ) (k : LineKind) (ns : List ℕ) → length ns ≡ count_of e k → TellsAll (in_edition e (line_of k ns))
 unfolding lacked_of has_other_pressure all_numbers_of kind_of line_of count_of card_at fields_of sample_numbers
-line_tells_all e opening ns c = record { lacked_zero = refl; pressure = refl }
+line_tells_all e (opening w) ns c = record { lacked_zero = refl; pressure = refl }
 line_tells_all e card ns c = record { lacked_zero = refl; pressure = refl }
 line_tells_all e sample ns c = record { lacked_zero = refl; pressure = refl }
 line_tells_all e totals ns c = record { lacked_zero = (totals_line e ns c).1; pressure = refl }
 
 pub plain : (k : LineKind) → Plain (first_field k)
-unfolding first_field lacks
-plain opening = record { no_comma = refl; no_end = refl }
+unfolding first_field word_of lacks
+plain (opening Lines) = record { no_comma = refl; no_end = refl }
+plain (opening Columns) = record { no_comma = refl; no_end = refl }
 plain card = record { no_comma = refl; no_end = refl }
 plain sample = record { no_comma = refl; no_end = refl }
 plain totals = record { no_comma = refl; no_end = refl }

@@ -19,6 +19,7 @@ use Rattle.lines.specs.Bytes.{line_feed, comma, letter_c, letter_e, letter_s}
 use Rattle.lines.specs.Line.{LineKind, card, sample, totals, first_field, bytes_of, opening_in, in_edition, content_rows, opening_length, count_of, line_of}
 use Rattle.lines.specs.Reading.{front_of, same_bytes, until_end, size_of, split, fields_in, first_in, numbers_in, shape_rows, edition_in, due_kind, line_in, line_rows, later_rows, read_rows, answer_of, read_of}
 use Rattle.lines.specs.Inside.Parts.{after_letter}
+use Rattle.lines.specs.declared.line.Layout.{Layout}
 use Rattle.lines.specs.declared.line.MayCome.{MayCome}
 use Rattle.lines.specs.declared.line.MayCome.TheVariants as M
 use Rattle.lines.proofs.Splitting.{split_parted}
@@ -40,20 +41,21 @@ unfolding first_of
 after_edition e rs h = simp h
 
 -- bytes in which an edition's opening is found begin with it
-pub opening_front : (bs : List ℕ) (e : ℕ) → is_other_edition e ≡ false → edition_in M.Opening bs ≡ e → bs ≡ bytes_of (opening_in e) ++ drop opening_length bs
-opening_front bs e h p =
-    sym (take-append-drop opening_length bs) ∙ ap (λ (l : List ℕ). l ++ drop opening_length bs) ((opened_exactly bs e h).0 p)
+pub opening_front : (w : Layout) (bs : List ℕ) (e : ℕ) → is_other_edition e ≡ false → edition_in (M.Opening w) bs ≡ e → bs ≡ bytes_of (opening_in w e) ++ drop opening_length bs
+opening_front w bs e h p =
+    sym (take-append-drop opening_length bs) ∙ ap (λ (l : List ℕ). l ++ drop opening_length bs) ((opened_exactly w bs e h).0 p)
 
-pub opening_sized : (bs : List ℕ) (e : ℕ) → is_other_edition e ≡ false → edition_in M.Opening bs ≡ e → size_of bs ≡ opening_length
-opening_sized bs e h p = ap size_of (opening_front bs e h p) ∙ bytes_size (opening_in e) (drop opening_length bs) ∙ opening_length_lem e h
+pub opening_sized : (w : Layout) (bs : List ℕ) (e : ℕ) → is_other_edition e ≡ false → edition_in (M.Opening w) bs ≡ e → size_of bs ≡ opening_length
+opening_sized w bs e h p = ap size_of (opening_front w bs e h p) ∙ bytes_size (opening_in w e) (drop opening_length bs) ∙ opening_length_lem w e h
 
-pub opening_read : (bs : List ℕ) (e : ℕ) → is_other_edition e ≡ false → edition_in M.Opening bs ≡ e → read_of M.Opening bs ≡ front_of (opening_in e) opening_length
+pub opening_read : (w : Layout) (bs : List ℕ) (e : ℕ) → is_other_edition e ≡ false → edition_in (M.Opening w) bs ≡ e →
+    read_of (M.Opening w) bs ≡ front_of (opening_in w e) opening_length
 unfolding read_of read_rows later_rows first_of line_in due_kind line_of
-opening_read bs e h p = simp (p, h, opening_sized bs e h p)
+opening_read w bs e h p = simp (p, h, opening_sized w bs e h p)
 
-pub opening_told : (may : MayCome) (bs : List ℕ) (e : ℕ) → is_other_edition e ≡ false → e ≡ edition_in may bs → may ≡ M.Opening →
-    front_of (opening_in e) opening_length ≡ read_of may bs
-opening_told may bs e o p m = sym (ap (λ (y : MayCome). read_of y bs) m ∙ opening_read bs e o (sym (p ∙ ap (λ (y : MayCome). edition_in y bs) m)))
+pub opening_told : (w : Layout) (may : MayCome) (bs : List ℕ) (e : ℕ) → is_other_edition e ≡ false → e ≡ edition_in may bs → may ≡ M.Opening w →
+    front_of (opening_in w e) opening_length ≡ read_of may bs
+opening_told w may bs e o p m = sym (ap (λ (y : MayCome). read_of y bs) m ∙ opening_read w bs e o (sym (p ∙ ap (λ (y : MayCome). edition_in y bs) m)))
 
 -- ---- the letter
 

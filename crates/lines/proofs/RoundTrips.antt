@@ -18,9 +18,9 @@ use Rattle.quantity.specs.Refusals.{first_of, NoneApplies}
 use Rattle.quantity.specs.declared.refusal.Refusal.{Refusal}
 use Rattle.quantity.proofs.Rows.{answered, parts, no_refusal, none_applies, none_of_parts}
 use Rattle.meter.specs.Edition.{is_other_edition}
-use Rattle.lines.specs.Bytes.{letter_c, letter_h, letter_s}
+use Rattle.lines.specs.Bytes.{letter_a, letter_c, letter_h, letter_s}
 use Rattle.lines.specs.Number.{decimal, most_digits, some_long}
-use Rattle.lines.specs.Line.{LineKind, opening, card, sample, totals, kind_of, first_field, all_numbers_of, numbers_of, lacked_of, text_of, bytes_of, opening_in, content_rows, has_other_pressure, count_of, line_of, opening_length}
+use Rattle.lines.specs.Line.{LineKind, opening, card, sample, totals, kind_of, word_of, first_field, all_numbers_of, numbers_of, lacked_of, text_of, bytes_of, opening_in, content_rows, has_other_pressure, count_of, line_of, opening_length}
 use Rattle.lines.specs.Reading.{front_of, same_bytes, size_of, fields_in, first_in, numbers_in, shape_rows, edition_in, due_kind, line_in, line_rows, later_rows, read_rows, read_of, rest_of}
 use Rattle.lines.specs.Writing.{Writable, own_rows, written_of}
 use Rattle.lines.specs.RoundTrip.{told_in, told_of, WritesBack}
@@ -28,6 +28,8 @@ use Rattle.lines.specs.Theorems.{CanBeWritten, WrittenThenRead, ReadThenWritten,
 use Rattle.lines.specs.declared.line.Line.{Line}
 use Rattle.lines.specs.declared.line.Line.TheVariants as L
 use Rattle.lines.specs.declared.line.EditionLine.{EditionLine}
+use Rattle.lines.specs.declared.line.Layout.{Layout}
+use Rattle.lines.specs.declared.line.Layout.TheVariants.{Lines, Columns}
 use Rattle.lines.specs.declared.line.MayCome.{MayCome}
 use Rattle.lines.specs.declared.line.MayCome.TheVariants as M
 use Rattle.lines.proofs.Shape.{line_bytes, shape_forth}
@@ -39,11 +41,12 @@ use Rattle.lines.proofs.WriterRows.{can_be_written, written_exactly, writable_ex
 
 -- ---- what is written is read back
 
-reads_opening : (e : ℕ) (rest : List ℕ) → is_other_edition e ≡ false
-    → read_of M.Opening (bytes_of (opening_in e) ++ rest) ≡ front_of (opening_in e) (length (bytes_of (opening_in e)))
-reads_opening e rest o =
-    opening_read (bytes_of (opening_in e) ++ rest) e o ((opened_exactly (bytes_of (opening_in e) ++ rest) e o).1 (take_at (bytes_of (opening_in e)) rest opening_length (opening_length_lem e o)))
-    ∙ rw (opening_length_lem e o)
+reads_opening : (w : Layout) (e : ℕ) (rest : List ℕ) → is_other_edition e ≡ false
+    → read_of (M.Opening w) (bytes_of (opening_in w e) ++ rest) ≡ front_of (opening_in w e) (length (bytes_of (opening_in w e)))
+reads_opening w e rest o =
+    let bs : List ℕ = bytes_of (opening_in w e) ++ rest in
+    opening_read w bs e o ((opened_exactly w bs e o).1 (take_at (bytes_of (opening_in w e)) rest opening_length (opening_length_lem w e o)))
+    ∙ rw (opening_length_lem w e o)
 
 -- a line with a letter, where one of its kind and its edition is due
 module _ (may : MayCome) (line : EditionLine) (rest : List ℕ) where
@@ -72,7 +75,7 @@ reads_line l rest w = by l.edition l.line w
     by : (e : ℕ) (line : Line) → CanBeWritten (record { edition = e; line = line })
         → read_of (told_in e line) (bytes_of (record { edition = e; line = line }) ++ rest)
         ≡ front_of (record { edition = e; line = line }) (length (bytes_of (record { edition = e; line = line })))
-    by e L.Opening w = reads_opening e rest w.edition
+    by e (L.Opening layout) w = reads_opening layout e rest w.edition
     by e (L.Card c) w = reads_due (M.Card e) (record { edition = e; line = L.Card c }) rest refl refl refl w
     by e (L.Sample s) w =
         let line : EditionLine = record { edition = e; line = L.Sample s } in
@@ -118,30 +121,31 @@ unfolding read_rows
 rows_after may bs e = none_applies (read_rows may bs) e
 
 -- an edition's opening can be written
-opening_can : (e : ℕ) → is_other_edition e ≡ false → CanBeWritten (opening_in e)
+opening_can : (w : Layout) (e : ℕ) → is_other_edition e ≡ false → CanBeWritten (opening_in w e)
 unfolding content_rows has_other_pressure kind_of count_of all_numbers_of numbers_of lacked_of
-opening_can e o =
+opening_can w e o =
     let small : e < 10 ^ most_digits = omega (arith, edition_most e o) in
     record { edition = o; content = tt; short = simp (lt-leb (10 ^ most_digits) e small); tells_all = record { lacked_zero = refl; pressure = refl } }
 
-pub opening_writable : (e : ℕ) → is_other_edition e ≡ false → Writable (opening_in e)
-opening_writable e o = (writable_exactly (opening_in e)).1 (opening_can e o)
+pub opening_writable : (w : Layout) (e : ℕ) → is_other_edition e ≡ false → Writable (opening_in w e)
+opening_writable w e o = (writable_exactly (opening_in w e)).1 (opening_can w e o)
 
-writes_opening : (bs : List ℕ) → is_other_edition (edition_in M.Opening bs) ≡ false → WritesBack M.Opening bs (opening_in (edition_in M.Opening bs)) (size_of bs)
+writes_opening : (w : Layout) (bs : List ℕ) → is_other_edition (edition_in (M.Opening w) bs) ≡ false →
+    WritesBack (M.Opening w) bs (opening_in w (edition_in (M.Opening w) bs)) (size_of bs)
 unfolding told_in
-writes_opening bs o =
-    let e : ℕ = edition_in M.Opening bs in
-    writes_line M.Opening bs (opening_in e) refl (rw (opening_sized bs e o refl) (opening_front bs e o refl)) (opening_can e o)
+writes_opening w bs o =
+    let e : ℕ = edition_in (M.Opening w) bs in
+    writes_line (M.Opening w) bs (opening_in w e) refl (rw (opening_sized w bs e o refl) (opening_front w bs e o refl)) (opening_can w e o)
 
 -- a line of a kind that is due
-writes_due : (may : MayCome) (e : ℕ) (bs : List ℕ) (k : LineKind) → (k ≡ opening → ⊥) → told_in e (line_of k (numbers_in bs)) ≡ may
+writes_due : (may : MayCome) (e : ℕ) (bs : List ℕ) (k : LineKind) → ((w : Layout) → k ≡ opening w → ⊥) → told_in e (line_of k (numbers_in bs)) ≡ may
     → is_other_edition e ≡ false → NoneApplies (line_rows e k bs) → WritesBack may bs (record { edition = e; line = line_of k (numbers_in bs) }) (size_of bs)
 unfolding line_rows
 writes_due may e bs k other t o h =
     let line : EditionLine = record { edition = e; line = line_of k (numbers_in bs) } in
     let n = none_of_parts (shape_rows (first_field k) (count_of e k) bs) (content_rows (line_of k (numbers_in bs))) h in
     let l = shape_forth (first_field k) (count_of e k) bs (no_refusal (shape_rows (first_field k) (count_of e k) bs) n.0) in
-    let numbers : numbers_of line ≡ numbers_in bs = numbers_line e k (numbers_in bs) (λ q. absurd (other q)) l.counted in
+    let numbers : numbers_of line ≡ numbers_in bs = numbers_line e k (numbers_in bs) (λ w q. absurd (other w q)) l.counted in
     let rest : List ℕ = drop (size_of bs) bs in
     let same : bytes_of line ++ rest ≡ bs =
     line_bytes_lem line rest
@@ -154,14 +158,14 @@ writes_due may e bs k other t o h =
 writes_later : (e : ℕ) (bs : List ℕ) (t : Bool) → is_other_edition e ≡ false → NoneApplies (line_rows e (cond t totals sample) bs)
     → WritesBack (M.SampleOrEnd e) bs (record { edition = e; line = line_of (cond t totals sample) (numbers_in bs) }) (size_of bs)
 unfolding told_in line_of
-writes_later e bs true o h = writes_due (M.SampleOrEnd e) e bs totals (λ q. let z : ◌≡◌ {A = ℕ} 0 1 = cc q in omega arith) refl o h
-writes_later e bs false o h = writes_due (M.SampleOrEnd e) e bs sample (λ q. let z : ◌≡◌ {A = ℕ} 0 1 = cc q in omega arith) refl o h
+writes_later e bs true o h = writes_due (M.SampleOrEnd e) e bs totals (λ w q. let z : ◌≡◌ {A = ℕ} 0 1 = cc q in omega arith) refl o h
+writes_later e bs false o h = writes_due (M.SampleOrEnd e) e bs sample (λ w q. let z : ◌≡◌ {A = ℕ} 0 1 = cc q in omega arith) refl o h
 
 -- what the rows accept
 writes : (may : MayCome) (bs : List ℕ) → is_other_edition (edition_in may bs) ≡ false → NoneApplies (later_rows may bs) → WritesBack may bs (line_in may bs) (size_of bs)
 unfolding line_in edition_in due_kind line_of later_rows told_in
-writes M.Opening bs o h = writes_opening bs o
-writes (M.Card e) bs o h = writes_due (M.Card e) e bs card (λ q. let z : ◌≡◌ {A = ℕ} 0 1 = cc q in omega arith) refl o h
+writes (M.Opening w) bs o h = writes_opening w bs o
+writes (M.Card e) bs o h = writes_due (M.Card e) e bs card (λ w q. let z : ◌≡◌ {A = ℕ} 0 1 = cc q in omega arith) refl o h
 writes (M.SampleOrEnd e) bs o h = writes_later e bs (same_bytes (first_in bs) (first_field totals)) o h
 
 pub read_then_written : ReadThenWritten
@@ -189,20 +193,21 @@ read_within may bs (Err r) e = tt
 
 -- the kind that a first field names
 named : List ℕ → LineKind
-named f = cond (eqb (get_or f 0 0) letter_h) opening (cond (eqb (get_or f 0 0) letter_c) card (cond (eqb (get_or f 0 0) letter_s) sample totals))
+named f = cond (eqb (get_or f 0 0) letter_h) (opening (cond (eqb (get_or f 4 0) letter_a) Lines Columns)) (cond (eqb (get_or f 0 0) letter_c) card (cond (eqb (get_or f 0 0) letter_s) sample totals))
 
 kind_named : (k : LineKind) → named (first_field k) ≡ k
-unfolding named first_field
-kind_named opening = refl
+unfolding named first_field word_of
+kind_named (opening Lines) = refl
+kind_named (opening Columns) = refl
 kind_named card = refl
 kind_named sample = refl
 kind_named totals = refl
 
 -- an opening's number is its edition
-opening_numbers : (k l : EditionLine) → numbers_of k ≡ numbers_of l → k.line ≡ l.line → k.line ≡ L.Opening → k.edition ≡ l.edition
+opening_numbers : (k l : EditionLine) → numbers_of k ≡ numbers_of l → k.line ≡ l.line → (w : Layout) → k.line ≡ L.Opening w → k.edition ≡ l.edition
 unfolding kind_of count_of all_numbers_of numbers_of
-opening_numbers k l e f o =
-    let of_opening : (j : EditionLine) → j.line ≡ L.Opening → get_or (numbers_of j) 0 0 ≡ j.edition = λ j q. rw q in
+opening_numbers k l e f w o =
+    let of_opening : (j : EditionLine) → j.line ≡ L.Opening w → get_or (numbers_of j) 0 0 ≡ j.edition = λ j q. rw q in
     sym (of_opening k o) ∙ ap (λ (ns : List ℕ). get_or ns 0 0) e ∙ of_opening l (sym f ∙ o)
 
 -- lines of one kind with the same numbers have the same bytes

@@ -18,7 +18,7 @@ digit_zero = 48
 abbrev pub digit_nine : ℕ
 digit_nine = 57
 
--- The letters. C, S and E are the first fields of a file's lines, R and X those of printed ones; the word of the opening is made of the others and
+-- The letters. C, S and E are the first fields of a file's lines, R and X those of printed ones; the words of the openings are made of the others and
 -- of some of these.
 abbrev pub letter_a : ℕ
 letter_a = 65
@@ -35,6 +35,18 @@ letter_h = 72
 abbrev pub letter_i : ℕ
 letter_i = 73
 
+abbrev pub letter_l : ℕ
+letter_l = 76
+
+abbrev pub letter_m : ℕ
+letter_m = 77
+
+abbrev pub letter_n : ℕ
+letter_n = 78
+
+abbrev pub letter_o : ℕ
+letter_o = 79
+
 abbrev pub letter_r : ℕ
 letter_r = 82
 
@@ -44,13 +56,21 @@ letter_s = 83
 abbrev pub letter_t : ℕ
 letter_t = 84
 
+abbrev pub letter_u : ℕ
+letter_u = 85
+
 abbrev pub letter_v : ℕ
 letter_v = 86
 
 abbrev pub letter_x : ℕ
 letter_x = 88
 
--- HEATARCHIVE, the word with which every file begins
+-- HEATARCHIVE, the word with which every archive begins
 abbrev pub archive_word : List ℕ
 archive_word =
     letter_h ∷ letter_e ∷ letter_a ∷ letter_t ∷ letter_a ∷ letter_r ∷ letter_c ∷ letter_h ∷ letter_i ∷ letter_v ∷ letter_e ∷ []
+
+-- HEATCOLUMNS, the word with which a file in columns begins
+abbrev pub columns_word : List ℕ
+columns_word =
+    letter_h ∷ letter_e ∷ letter_a ∷ letter_t ∷ letter_c ∷ letter_o ∷ letter_l ∷ letter_u ∷ letter_m ∷ letter_n ∷ letter_s ∷ []

@@ -8,30 +8,37 @@ use Rattle.meter.specs.Sample.{sample_numbers, sample_fields}
 use Rattle.meter.specs.declared.card.Card.{Card}
 use Rattle.meter.specs.declared.sample.Sample.{Sample}
 use Rattle.meter.specs.declared.state.Meter.{Meter}
-use Rattle.lines.specs.Bytes.{line_feed, comma, letter_c, letter_e, letter_s, archive_word}
+use Rattle.lines.specs.Bytes.{line_feed, comma, letter_c, letter_e, letter_s, archive_word, columns_word}
 use Rattle.lines.specs.Number.{decimal}
+use Rattle.lines.specs.declared.line.Layout.{Layout}
+use Rattle.lines.specs.declared.line.Layout.TheVariants.{Lines, Columns}
 use Rattle.lines.specs.declared.line.Line.{Line}
 use Rattle.lines.specs.declared.line.Line.TheVariants as L
 use Rattle.lines.specs.declared.line.EditionLine.{EditionLine}
 use Rattle.lines.specs.declared.line.Totals.{Totals}
 
--- The four kinds of line: the opening; the card's line C; a sample's line S; and line E, with the totals.
+-- The four kinds of line: the opening, which tells in which layout a file has its samples; the card's line C; a sample's line S; and line E, with the totals.
 pub data LineKind : Type 0 where
-  opening : LineKind
+  opening : Layout → LineKind
   card : LineKind
   sample : LineKind
   totals : LineKind
 
 -- the kind that a line is of
 unfoldable pub kind_of : Line → LineKind
-kind_of L.Opening = opening
+kind_of (L.Opening layout) = opening layout
 kind_of (L.Card c) = card
 kind_of (L.Sample s) = sample
 kind_of (L.End t) = totals
 
--- what a line of a kind begins with: the word in the opening, a letter in the others
+-- the word that tells a layout
+unfoldable pub word_of : Layout → List ℕ
+word_of Lines = archive_word
+word_of Columns = columns_word
+
+-- what a line of a kind begins with: the layout's word in the opening, a letter in the others
 unfoldable pub first_field : LineKind → List ℕ
-first_field opening = archive_word
+first_field (opening layout) = word_of layout
 first_field card = letter_c ∷ []
 first_field sample = letter_s ∷ []
 first_field totals = letter_e ∷ []
@@ -51,7 +58,7 @@ totals_fields = 6
 -- How many numbers follow the first field. The opening has one, its edition. Line E has four totals in every edition; a fifth, the kept seconds,
 -- where the edition keeps them, and a sixth, the cold register, where it counts cold.
 unfoldable pub count_of : ℕ → LineKind → ℕ
-count_of e opening = 1
+count_of e (opening layout) = 1
 count_of e card = card_line_fields
 count_of e sample = sample_fields
 count_of e totals = cond (counts_cold e) totals_fields (cond (keeps_seconds e) 5 4)
@@ -77,7 +84,7 @@ unfoldable pub all_numbers_of : EditionLine → List ℕ
 all_numbers_of l = by l.line
   where
     by : Line → List ℕ
-    by L.Opening = l.edition ∷ []
+    by (L.Opening layout) = l.edition ∷ []
     by (L.Card c) = take card_line_fields (fields_of c)
     by (L.Sample s) = sample_numbers s
     by (L.End t) = totals_numbers t
@@ -107,26 +114,26 @@ bytes_of l = text_of (first_field (kind_of l.line)) (numbers_of l)
 abbrev pub in_edition : ℕ → Line → EditionLine
 in_edition e line = record { edition = e; line = line }
 
--- An edition's opening.
-abbrev pub opening_in : ℕ → EditionLine
-opening_in e = in_edition e L.Opening
+-- An edition's opening of a layout.
+abbrev pub opening_in : Layout → ℕ → EditionLine
+opening_in layout e = in_edition e (L.Opening layout)
 
 -- The rows on what a line says, for reader and writer alike, a row being a refusal with its condition. A card is refused by its own, 10 to 18 and
 -- 77. A sample may be any four numbers, and the totals may be any: only the audit can tell whether they are right.
 unfoldable pub content_rows : Line → List Row
-content_rows L.Opening = []
+content_rows (L.Opening layout) = []
 content_rows (L.Card c) = card_rows c
 content_rows (L.Sample s) = []
 content_rows (L.End t) = []
 
 -- Whether a line has a card of another pressure than that of every file, which its bytes do not tell.
 unfoldable pub has_other_pressure : Line → Bool
-has_other_pressure L.Opening = false
+has_other_pressure (L.Opening layout) = false
 has_other_pressure (L.Card c) = not (eqb c.pressure file_pressure)
 has_other_pressure (L.Sample s) = false
 has_other_pressure (L.End t) = false
 
--- how many bytes an opening has in each edition, its line feed among them
+-- how many bytes an opening has, whatever the layout and the edition, its line feed among them
 abbrev pub opening_length : ℕ
 opening_length = 14
 
@@ -170,7 +177,7 @@ totals_from ns = record {
 -- The line of a kind with these numbers. The opening's only number is its edition, which stands beside the line and not in it. `line_of_lem` and
 -- `numbers_line` of proofs/LineLaws.antt tie this to `numbers_of`.
 unfoldable pub line_of : LineKind → List ℕ → Line
-line_of opening ns = L.Opening
+line_of (opening layout) ns = L.Opening layout
 line_of card ns = L.Card (card_of ns)
 line_of sample ns = L.Sample (sample_from ns)
 line_of totals ns = L.End (totals_from ns)

@@ -11,6 +11,7 @@ use Rattle.meter.specs.Edition.{last_edition, is_other_edition}
 use Rattle.lines.specs.Bytes.{line_feed, comma}
 use Rattle.lines.specs.Number.{is_number, value_of}
 use Rattle.lines.specs.Line.{LineKind, opening, card, sample, totals, first_field, opening_length, in_edition, opening_in, count_of, line_of, bytes_of, content_rows}
+use Rattle.lines.specs.declared.line.Layout.{Layout}
 use Rattle.lines.specs.declared.line.EditionLine.{EditionLine}
 use Rattle.lines.specs.declared.line.MayCome.{MayCome}
 use Rattle.lines.specs.declared.line.MayCome.TheVariants as M
@@ -77,21 +78,21 @@ is_misshapen first count bs = not (is_ended bs) || (not (same_bytes (first_in bs
 unfoldable pub shape_rows : List ℕ → ℕ → List ℕ → List Row
 shape_rows first count bs = row R.Shape (is_misshapen first count bs) ∷ row R.Number (not (are_numbers (others_in bs))) ∷ []
 
--- The edition whose opening the bytes begin with, looked for from e down; 0, which is no edition, where they begin with none.
-unfoldable pub opened_up_to : ℕ → List ℕ → ℕ
-opened_up_to zero bs = 0
-opened_up_to (suc e) bs = cond (same_bytes (take opening_length bs) (bytes_of (opening_in (suc e)))) (suc e) (opened_up_to e bs)
+-- The edition whose opening of a layout the bytes begin with, looked for from e down; 0, which is no edition, where they begin with none.
+unfoldable pub opened_up_to : Layout → ℕ → List ℕ → ℕ
+opened_up_to layout zero bs = 0
+opened_up_to layout (suc e) bs = cond (same_bytes (take opening_length bs) (bytes_of (opening_in layout (suc e)))) (suc e) (opened_up_to layout e bs)
 
 -- the edition of the line at the front: that of an opening is found in it, that of any other line is told
 unfoldable pub edition_in : MayCome → List ℕ → ℕ
-edition_in M.Opening bs = opened_up_to last_edition bs
+edition_in (M.Opening layout) bs = opened_up_to layout last_edition bs
 edition_in (M.Card e) bs = e
 edition_in (M.SampleOrEnd e) bs = e
 
 -- The kind of line that is due. Where a sample and the totals both may stand, it is line E if the first field is E, and otherwise a line S; so a
 -- first field that is neither is refused with 61, as no S.
 unfoldable pub due_kind : MayCome → List ℕ → LineKind
-due_kind M.Opening bs = opening
+due_kind (M.Opening layout) bs = opening layout
 due_kind (M.Card e) bs = card
 due_kind (M.SampleOrEnd e) bs = cond (same_bytes (first_in bs) (first_field totals)) totals sample
 
@@ -105,7 +106,7 @@ line_rows e k bs = shape_rows (first_field k) (count_of e k) bs ++ content_rows 
 
 -- The conditions after 60. An opening has none: where its edition is found, all of its bytes are.
 unfoldable pub later_rows : MayCome → List ℕ → List Row
-later_rows M.Opening bs = []
+later_rows (M.Opening layout) bs = []
 later_rows (M.Card e) bs = line_rows e (due_kind (M.Card e) bs) bs
 later_rows (M.SampleOrEnd e) bs = line_rows e (due_kind (M.SampleOrEnd e) bs) bs
 

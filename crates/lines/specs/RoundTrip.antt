@@ -9,6 +9,7 @@ use Rattle.meter.specs.Card.{card_rows}
 use Rattle.lines.specs.Line.{LineKind, card, sample, totals, first_field, count_of, card_of, bytes_of}
 use Rattle.lines.specs.Reading.{others_in, numbers_in, are_numbers, is_misshapen, edition_in, front_of, read_of, rest_of}
 use Rattle.lines.specs.Writing.{written_of, Writable}
+use Rattle.lines.specs.declared.line.Layout.{Layout}
 use Rattle.lines.specs.declared.line.Line.{Line}
 use Rattle.lines.specs.declared.line.Line.TheVariants as L
 use Rattle.lines.specs.declared.line.EditionLine.{EditionLine}
@@ -17,7 +18,7 @@ use Rattle.lines.specs.declared.line.MayCome.TheVariants as M
 
 -- what the reader is told where a line of an edition is due
 unfoldable pub told_in : ℕ → Line → MayCome
-told_in e L.Opening = M.Opening
+told_in e (L.Opening layout) = M.Opening layout
 told_in e (L.Card c) = M.Card e
 told_in e (L.Sample s) = M.SampleOrEnd e
 told_in e (L.End t) = M.SampleOrEnd e
@@ -48,7 +49,7 @@ is_no_line e k bs = is_misshapen (first_field k) (count_of e k) bs
 -- Whether they begin with nothing of the shape of a line that is due: where a line S and line E both may stand, with neither. An opening has no such
 -- condition, since its edition tells it.
 abbrev pub is_misshapen_due : MayCome → List ℕ → Bool
-is_misshapen_due M.Opening bs = false
+is_misshapen_due (M.Opening layout) bs = false
 is_misshapen_due (M.Card e) bs = is_no_line e card bs
 is_misshapen_due (M.SampleOrEnd e) bs = is_no_line e sample bs && is_no_line e totals bs
 
@@ -58,7 +59,7 @@ is_misshapen_due (M.SampleOrEnd e) bs = is_no_line e sample bs && is_no_line e t
 pub data Cause (bs : List ℕ) : MayCome → Refusal → Type 0 where
   other_edition : {may : MayCome} → is_other_edition (edition_in may bs) ≡ true → Cause bs may R.Edition
   misshapen : {may : MayCome} → is_other_edition (edition_in may bs) ≡ false → is_misshapen_due may bs ≡ true → Cause bs may R.Shape
-  no_number : {may : MayCome} → (may ≡ M.Opening → ⊥) → is_other_edition (edition_in may bs) ≡ false → is_misshapen_due may bs ≡ false
-      → are_numbers (others_in bs) ≡ false → Cause bs may R.Number
+  no_number : {may : MayCome} → ((layout : Layout) → may ≡ M.Opening layout → ⊥) → is_other_edition (edition_in may bs) ≡ false
+      → is_misshapen_due may bs ≡ false → are_numbers (others_in bs) ≡ false → Cause bs may R.Number
   card_row : (e : ℕ) (r : Refusal) → is_other_edition e ≡ false → is_misshapen_due (M.Card e) bs ≡ false → are_numbers (others_in bs) ≡ true
       → first_of (card_rows (card_of (numbers_in bs))) ≡ Err r → Cause bs (M.Card e) r

@@ -8,13 +8,14 @@ use Rattle.quantity.specs.declared.refusal.Refusal.TheVariants as R
 use Rattle.buffer.specs.Putting.{buffer_after}
 use Rattle.buffer.specs.Theorems.{Fits}
 use Rattle.meter.specs.Edition.{is_other_edition}
-use Rattle.lines.specs.Bytes.{line_feed, comma, digit_zero, archive_word}
+use Rattle.lines.specs.Bytes.{line_feed, comma, digit_zero}
 use Rattle.lines.specs.Number.{some_long, some_nonzero}
-use Rattle.lines.specs.Line.{numbers_of, lacked_of, bytes_of, opening_in, opening_length, content_rows, has_other_pressure}
+use Rattle.lines.specs.Line.{word_of, numbers_of, lacked_of, bytes_of, opening_in, opening_length, content_rows, has_other_pressure}
 use Rattle.lines.specs.Reading.{front_of, read_of}
 use Rattle.lines.specs.Writing.{written_of}
 use Rattle.lines.specs.RoundTrip.{ReadsBack, WritesBack, Cause}
 use Rattle.lines.specs.declared.line.EditionLine.{EditionLine}
+use Rattle.lines.specs.declared.line.Layout.{Layout}
 use Rattle.lines.specs.declared.line.Front.{Front}
 use Rattle.lines.specs.declared.line.Line.TheVariants as L
 use Rattle.lines.specs.declared.line.MayCome.{MayCome}
@@ -68,7 +69,7 @@ ReadThenWritten = (may : MayCome) (bs : List ℕ) (line : EditionLine) (n : ℕ)
 -- Two lines are the same; openings are of the same edition too, which stands in their bytes and in no other line's.
 pub record SameLine (k l : EditionLine) : Type 0 where
   pub line : k.line ≡ l.line
-  pub edition : k.line ≡ L.Opening → k.edition ≡ l.edition
+  pub edition : (layout : Layout) → k.line ≡ L.Opening layout → k.edition ≡ l.edition
 
 -- Bytes that begin with one line's bytes begin with no other's. It holds in any editions, and also of lines that the writer refuses, if their bytes
 -- tell all of them.
@@ -76,8 +77,9 @@ abbrev pub OneLine : Type 0
 OneLine =
     (k l : EditionLine) (s t : List ℕ) → TellsAll k → TellsAll l → bytes_of k ++ s ≡ bytes_of l ++ t → SameLine k l × (s ≡ t)
 
--- The opening of an edition is the word, a comma, the edition's digit and a line feed, which are 14 bytes.
+-- The opening of an edition is its layout's word, a comma, the edition's digit and a line feed, which are 14 bytes.
 abbrev pub OpeningBytes : Type 0
 OpeningBytes =
-    (e : ℕ) → is_other_edition e ≡ false →
-    (bytes_of (opening_in e) ≡ archive_word ++ (comma ∷ (digit_zero + e) ∷ line_feed ∷ [])) × (length (bytes_of (opening_in e)) ≡ opening_length)
+    (layout : Layout) (e : ℕ) → is_other_edition e ≡ false →
+    (bytes_of (opening_in layout e) ≡ word_of layout ++ (comma ∷ (digit_zero + e) ∷ line_feed ∷ []))
+    × (length (bytes_of (opening_in layout e)) ≡ opening_length)

@@ -12,7 +12,7 @@ pub fn one_line()
     ensures { OneLine }
 {}
 
-/// The opening of an edition is HEATARCHIVE, a comma, the edition's digit and a line feed: 14 bytes.
+/// The opening of an edition is its layout's word, HEATARCHIVE or HEATCOLUMNS, a comma, the edition's digit and a line feed: 14 bytes.
 pub fn opening_bytes()
     ensures { OpeningBytes }
 {}

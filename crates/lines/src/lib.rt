@@ -15,7 +15,7 @@ mod report;
 mod writing;
 
 pub use line::{
-    EditionLine, FILE_PRESSURE, Front, Line, MayCome, RefusedAt, TOTALS_FIELDS, Totals,
+    EditionLine, FILE_PRESSURE, Front, Layout, Line, MayCome, RefusedAt, TOTALS_FIELDS, Totals,
 };
 pub use opening::OPENING_LENGTH;
 pub use reading::{ReadLine, read_line};

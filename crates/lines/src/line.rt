@@ -94,12 +94,21 @@ impl From<Meter> for Totals {
     }
 }
 
+/// In which order a file has its samples: line by line, as an archive, or column by column. The word of the opening tells it.
+#[derive(Clone, Copy, Debug, PartialEq, Eq)]
+pub enum Layout {
+    /// an archive, with a line for each sample; its word is HEATARCHIVE
+    Lines,
+    /// a line for each of the four columns; its word is HEATCOLUMNS
+    Columns,
+}
+
 /// A line, by its kind: the opening, the card's line C, a sample's line S, or line E with the totals. Any numbers
 /// can stand here: whether they may be read or written is for reader and writer to say.
 #[derive(Clone, Copy, Debug, PartialEq, Eq)]
 pub enum Line {
-    /// the first line of a file, which names its edition
-    Opening,
+    /// the first line of a file, which names its layout and its edition
+    Opening(Layout),
     /// line C, which has no field for the card's pressure: a card that was read has 16 bar, and one of another pressure is not written
     Card(Card),
     /// line S
@@ -122,8 +131,8 @@ pub struct EditionLine {
 /// which the letter tells.
 #[derive(Clone, Copy, Debug, PartialEq, Eq)]
 pub enum MayCome {
-    /// the opening of any edition
-    Opening,
+    /// the opening of a file of this layout, in any edition
+    Opening(Layout),
     /// line C, in the edition of this number; another number than 1, 2 and 3 is refused (60)
     Card(u64),
     /// line S or line E, in the edition of this number; another number than 1, 2 and 3 is refused (60)

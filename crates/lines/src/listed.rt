@@ -75,7 +75,7 @@ pub(crate) fn numbers_of(what: EditionLine) -> Listed
     ensures { result ≡ numbers_parted what }
 {
     match what.line {
-        Line::Opening => Listed::new(&[what.edition], 1),
+        Line::Opening(_) => Listed::new(&[what.edition], 1),
         Line::Card(c) => Listed::new(
             &<[u64; CARD_FIELDS]>::from(c)[..CARD_LINE_FIELDS],
             CARD_LINE_FIELDS,
@@ -117,7 +117,7 @@ pub(crate) fn first_field(line: Line) -> &'static [u8]
     ensures { result.now ≡ first_field (kind_of line) }
 {
     match line {
-        Line::Opening => opening_word(),
+        Line::Opening(layout) => opening_word(layout),
         Line::Card(_) => b"C",
         Line::Sample(_) => b"S",
         Line::End(_) => b"E",

@@ -53,7 +53,7 @@ fn content_refusal(line: Line) -> Result<(), Refusal>
 {
     match line {
         Line::Card(card) => card.refusal(),
-        Line::Opening | Line::Sample(_) | Line::End(_) => Ok(()),
+        Line::Opening(_) | Line::Sample(_) | Line::End(_) => Ok(()),
     }
 }
 
@@ -64,7 +64,7 @@ fn has_other_pressure(line: Line) -> bool
 {
     match line {
         Line::Card(card) => card.pressure != FILE_PRESSURE,
-        Line::Opening | Line::Sample(_) | Line::End(_) => false,
+        Line::Opening(_) | Line::Sample(_) | Line::End(_) => false,
     }
 }
 
@@ -97,8 +97,8 @@ fn put_line(part: &mut [u8], what: EditionLine) -> usize
     requires { (length (bytes_of what) ≤ length part.old) × (is_other_edition what.edition ≡ false) }
     ensures { (result ≡ length (bytes_of what)) × (part.new ≡ put_front part.old (bytes_of what)) }
 {
-    if let Line::Opening = what.line {
-        return put_opening(part, what.edition);
+    if let Line::Opening(layout) = what.line {
+        return put_opening(part, layout, what.edition);
     }
     let listed = numbers_of(what);
     put_text(part, first_field(what.line), listed.shown())

@@ -3,13 +3,13 @@ use crate::answers::put_refusal;
 use crate::archives::put_written;
 use crate::hexadecimal::{MOST_BYTES, bytes_of};
 use crate::text::number;
-use lines::{EditionLine, MayCome};
+use lines::{EditionLine, Layout, MayCome};
 use std::io;
 use std::io::Write;
 
 // `O,` the bytes, where the opening may come.
 pub(crate) fn of_opening(out: &mut impl Write, line: &[u8]) -> io::Result<()> {
-    put_read(out, line, 1, MayCome::Opening)
+    put_read(out, line, 1, MayCome::Opening(Layout::Lines))
 }
 
 // `C,` the edition and the bytes, where the card's line may come.

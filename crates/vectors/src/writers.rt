@@ -1,7 +1,7 @@
 // The writer of one line, from values, into the last bytes of a space of 96 points.
 use crate::answers::put_refusal;
 use crate::text::numbers;
-use lines::{EditionLine, Line, Totals};
+use lines::{EditionLine, Layout, Line, Totals};
 use meter::{Card, Sample};
 use quantity::Refusal;
 use std::io;
@@ -12,7 +12,7 @@ use std::io::Write;
 pub(crate) fn of_values(out: &mut impl Write, line: &[u8]) -> io::Result<()> {
     let [kind, edition, lent, at] = numbers::<4>(line, 1);
     let content = match kind {
-        0 => Line::Opening,
+        0 => Line::Opening(Layout::Lines),
         1 => Line::Card(Card::from(numbers(line, 5))),
         2 => Line::Sample(Sample::from(numbers(line, 5))),
         _ => Line::End(Totals::from(numbers(line, 5))),

@@ -5,4 +5,4 @@ use Rattle.lines.specs.Reading.{opened_up_to}
 use Rattle.lines.proofs.opening.opened_edition.Given as goal
 
 abbrev pub invariant-loop-edition : goal.invariant-loop-edition
-invariant-loop-edition l = opened_up_to last_edition l.bytes ≡ opened_up_to l.edition l.bytes
+invariant-loop-edition l = opened_up_to l.layout last_edition l.bytes ≡ opened_up_to l.layout l.edition l.bytes
