@@ -1,4 +1,4 @@
--- Laws and theorems about the audit.
+-- Laws and theorems about the audit, and about what is made of a file.
 pub mod OneLine
 pub mod Bodies
 pub mod Files
@@ -11,3 +11,4 @@ pub mod Going
 pub mod Heads
 pub mod Starting
 pub mod Printed
+pub mod Outputs

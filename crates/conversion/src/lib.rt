@@ -1,7 +1,6 @@
 // Files moved between editions 2 and 3. docs/FORMAT.md: "From edition 2 to edition 3, and back"; docs/OPERATIONS.md: "Moved files".
 #![tactic(auto)]
 
-mod answer;
 mod converting;
 mod direction;
 mod examining;
@@ -10,5 +9,4 @@ pub mod laws;
 mod putting;
 mod running;
 
-pub use answer::Unconverted;
 pub use converting::{to_edition_2, to_edition_3};

@@ -2,7 +2,7 @@
 use crate::answers::put_refusal;
 use crate::hexadecimal::{MOST_BYTES, bytes_of, put_bytes};
 use crate::text::numbers;
-use conversion::Unconverted;
+use archive::NotMade;
 use lines::RefusedAt;
 use quantity::Refusal;
 use std::io;
@@ -31,10 +31,10 @@ fn put_converted(out: &mut impl Write, from: u64, bytes: &[u8], buf: &mut [u8]) 
     put_bytes(out, buf)
 }
 
-fn put_length(out: &mut impl Write, length: Result<usize, Unconverted>) -> io::Result<()> {
+fn put_length(out: &mut impl Write, length: Result<usize, NotMade>) -> io::Result<()> {
     match length {
         Ok(length) => write!(out, ",N,{length}"),
-        Err(Unconverted::At(RefusedAt { refusal, line })) => write!(out, ",X,{refusal},{line}"),
-        Err(Unconverted::NoRoom) => put_refusal(out, Refusal::Room),
+        Err(NotMade::At(RefusedAt { refusal, line })) => write!(out, ",X,{refusal},{line}"),
+        Err(NotMade::NoRoom) => put_refusal(out, Refusal::Room),
     }
 }
