@@ -7,8 +7,8 @@ use mathlib.Core.List.{List, [], ◌∷◌}
 use Prim.Native.Nat.{ℕ, suc, ◌+◌, ◌<◌}
 use native.Mathlib.Omega.{arith}
 use lib.Dec.{eqb, ltb}
-use Rattle.std.proofs.Common.{Some, None}
-use Rattle.std.specs.Option.{option_eq}
+use Rattle.std.proofs.Common.{Option, Some, None}
+use Rattle.std.specs.Option.{unwrap_or}
 use Rattle.std.proofs.lemmas.List.Recursion.{is_count_by}
 use Rattle.quantity.proofs.Comparing.{same_order}
 use Rattle.std.specs.List.{position, position_or_len, count_by}
@@ -132,19 +132,31 @@ pub ruleset first_ends = (first_none, first_feed, first_comma, first_more)
 
 -- ---- 61 or 62
 
+-- by the commas of the line, where it is ended; so many fields are due, or as many as it has
+module _ (count : Option ℕ) (bs : List ℕ) (o : Option ℕ) (e : o ≡ cond (is_ended bs) (Some (length (others_in bs))) None) where
+  abbrev due : ℕ
+  due = unwrap_or count (length (others_in bs))
+
+  pub no_end : o ≡ None → true ≡ is_misshapen [] due bs
+  unfolding is_misshapen
+  no_end h = go (is_ended bs) (sym e ∙ h)
+    where
+      go : (t : Bool) → cond t (Some (length (others_in bs))) None ≡ None → true ≡ (not t || (not (same_bytes (first_in bs) []) || not (eqb (length (others_in bs)) due)))
+      go true g = absurd (let z : ◌≡◌ {A = ℕ} 0 1 = cc g in omega arith)
+      go false g = refl
+
+  pub by_commas : (c u : ℕ) → o ≡ Some c → u ≡ unwrap_or count c → same_bytes (first_in bs) [] ≡ true → not (eqb c u) ≡ is_misshapen [] due bs
+  unfolding is_misshapen
+  by_commas c u h k f = rw (f, k) (go (is_ended bs) (sym e ∙ h))
+    where
+      go : (t : Bool) → cond t (Some (length (others_in bs))) None ≡ Some c → not (eqb c (unwrap_or count c)) ≡ (not t || (not true || not (eqb (length (others_in bs)) due)))
+      go true g = ap (λ (n : ℕ). not (eqb n (unwrap_or count n))) (sym (cc g))
+      go false g = absurd (let z : ◌≡◌ {A = ℕ} 0 1 = cc g in omega arith)
+
 module _ (first : List ℕ) (count : ℕ) (bs : List ℕ) where
   pub misshapen_first : same_bytes (first_in bs) first ≡ false → is_misshapen first count bs ≡ true
   unfolding is_misshapen
   misshapen_first e = simp (e, or-true)
-
-  -- by the commas of the line, where it is ended
-  pub by_commas : same_bytes (first_in bs) first ≡ true → not (option_eq eqb (cond (is_ended bs) (Some (length (others_in bs))) None) (Some count)) ≡ is_misshapen first count bs
-  unfolding is_misshapen
-  by_commas e = simp e (go (is_ended bs))
-    where
-      go : (t : Bool) → not (option_eq eqb (cond t (Some (length (others_in bs))) None) (Some count)) ≡ (not t || not (eqb (length (others_in bs)) count))
-      go true = refl
-      go false = refl
 
   -- no numbers make a line of the bytes
   abbrev pub NoLine : Type 0

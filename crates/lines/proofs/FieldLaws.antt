@@ -59,7 +59,7 @@ size_in : Option Number → ℕ
 size_in (Some x) = x.size
 size_in None = 0
 
-found_value : (v w n m : ℕ) → found v n ≡ found w m → v ≡ w
+pub found_value : (v w n m : ℕ) → found v n ≡ found w m → v ≡ w
 unfolding value_in
 found_value v w n m e = ap value_in e
 

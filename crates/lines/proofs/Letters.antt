@@ -34,7 +34,7 @@ module _ (b : ℕ) (after : List ℕ) (apart : comma < b) where
   unfolding fields_in
   first_letter = ap (λ (fs : List (List ℕ)). get_or fs 0 []) fields_letter ∙ first_of_lem b (fields_in after) (split_parted (until_end after))
 
-  others_letter : others_in (b ∷ after) ≡ others_in after
+  pub others_letter : others_in (b ∷ after) ≡ others_in after
   unfolding fields_in
   others_letter = ap (λ (fs : List (List ℕ)). drop 1 fs) fields_letter ∙ others_first b (fields_in after) (split_parted (until_end after))
 
@@ -45,12 +45,12 @@ module _ (b : ℕ) (after : List ℕ) (apart : comma < b) where
   numbers_letter : numbers_in (b ∷ after) ≡ numbers_in after
   numbers_letter = ap (λ (fs : List (List ℕ)). map value_of fs) others_letter
 
-  size_letter : size_of (b ∷ after) ≡ size_of after + 1
+  pub size_letter : size_of (b ∷ after) ≡ size_of after + 1
   unfolding size_of until_end
   size_letter = simp (ne_eqb b line_feed (λ e. omega arith)) (omega arith)
 
   -- a line's shape, by what follows its letter
-  shape_letter : (count : ℕ) → shape_rows (b ∷ []) count (b ∷ after) ≡ shape_rows [] count after
+  pub shape_letter : (count : ℕ) → shape_rows (b ∷ []) count (b ∷ after) ≡ shape_rows [] count after
   unfolding shape_rows is_misshapen is_ended
   shape_letter count = rw (others_letter, same_letter) (simp (ne_eqb b line_feed (λ e. omega arith)))
 
@@ -61,7 +61,7 @@ pub by_letter : (e : ℕ) (k : LineKind) (b : ℕ) (after : List ℕ) → comma 
 unfolding line_rows after_letter
 by_letter e k b after c f = rw (f, shape_letter b after c (count_of e k), numbers_letter b after c, size_letter b after c)
 
--- ---- what `read_numbers` answered
+-- ---- what `fill_numbers` answered
 
 module _ (e : ℕ) (k : LineKind) (after : List ℕ) where
   abbrev shape : Result Unit Refusal

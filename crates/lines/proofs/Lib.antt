@@ -1,4 +1,5 @@
 -- Laws and theorems about the archive's lines.
+mod Counted
 pub mod Decimals
 pub mod Exactness
 mod Faults
@@ -7,8 +8,11 @@ mod Letters
 pub mod LineBytes
 pub mod LineLaws
 mod Listing
+mod NumberRows
+pub mod NumbersLaws
 pub mod Openings
 pub mod Puts
+mod Reached
 pub mod ReaderRows
 pub mod Reports
 mod Runs

@@ -3,16 +3,15 @@
 use Rattle.std.proofs.Common.{Ok}
 use mathlib.Core.Path.{◌≡◌, ap, ◌∙◌}
 use mathlib.Core.Bool.{false}
-use mathlib.Core.List.{List, [], ◌∷◌, ◌++◌, append_assoc, map}
+use mathlib.Core.List.{List, ◌∷◌, ◌++◌, map}
 use Prim.Native.Nat.{ℕ}
 use lib.ListN.{length}
 use Rattle.quantity.specs.Refusals.{first_of}
-use Rattle.lines.specs.Bytes.{line_feed}
 use Rattle.lines.specs.Number.{decimal, some_long}
-use Rattle.lines.specs.Line.{kind_of, first_field, numbers_of, after_commas, text_of, bytes_of, count_of}
+use Rattle.lines.specs.Line.{kind_of, first_field, numbers_of, bytes_of, count_of}
 use Rattle.lines.specs.Reading.{size_of, fields_in, numbers_in, shape_rows}
 use Rattle.lines.specs.declared.line.EditionLine.{EditionLine}
-use Rattle.lines.proofs.Shape.{line_bytes, numbers_back, size_back, shape_back, fields_back}
+use Rattle.lines.proofs.Shape.{line_bytes, text_line, numbers_back, size_back, shape_back, fields_back}
 use Rattle.lines.proofs.LineLaws.{numbers_counted, plain}
 
 module _ (line : EditionLine) (rest : List ℕ) where
@@ -20,10 +19,8 @@ module _ (line : EditionLine) (rest : List ℕ) where
   first = first_field (kind_of line.line)
 
   pub line_bytes_lem : bytes_of line ++ rest ≡ line_bytes first (numbers_of line) rest
-  unfolding bytes_of text_of
-  line_bytes_lem =
-      append_assoc first (after_commas (map decimal (numbers_of line)) ++ (line_feed ∷ [])) rest
-      ∙ ap (λ (l : List ℕ). first ++ l) (append_assoc (after_commas (map decimal (numbers_of line))) (line_feed ∷ []) rest)
+  unfolding bytes_of
+  line_bytes_lem = text_line first (numbers_of line) rest
 
   pub bytes_fields : fields_in (bytes_of line ++ rest) ≡ first_field (kind_of line.line) ∷ map decimal (numbers_of line)
   bytes_fields = ap fields_in line_bytes_lem ∙ fields_back first (numbers_of line) rest (plain (kind_of line.line))

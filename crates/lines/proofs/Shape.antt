@@ -71,6 +71,11 @@ pub record Plain (first : List ℕ) : Type 0 where
 abbrev pub line_bytes : List ℕ → List ℕ → List ℕ → List ℕ
 line_bytes first ns rest = first ++ (after_commas (map decimal ns) ++ (line_feed ∷ rest))
 
+pub text_line : (first ns rest : List ℕ) → text_of first ns ++ rest ≡ line_bytes first ns rest
+unfolding text_of
+text_line first ns rest =
+    append_assoc first (after_commas (map decimal ns) ++ (line_feed ∷ [])) rest ∙ ap (λ (l : List ℕ). first ++ l) (append_assoc (after_commas (map decimal ns)) (line_feed ∷ []) rest)
+
 module _ (first ns rest : List ℕ) (p : Plain first) where
   body : List ℕ
   body = first ++ after_commas (map decimal ns)

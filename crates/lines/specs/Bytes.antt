@@ -18,10 +18,13 @@ digit_zero = 48
 abbrev pub digit_nine : ℕ
 digit_nine = 57
 
--- The letters. C, S and E are the first fields of a file's lines, R and X those of printed ones; the words of the openings are made of the others and
--- of some of these.
+-- The letters. C, S and E are the first fields of a file's lines, P, T, A and B those of columns, R and X those of printed lines; the words of the
+-- openings are made of the others and of some of these.
 abbrev pub letter_a : ℕ
 letter_a = 65
+
+abbrev pub letter_b : ℕ
+letter_b = 66
 
 abbrev pub letter_c : ℕ
 letter_c = 67
@@ -46,6 +49,9 @@ letter_n = 78
 
 abbrev pub letter_o : ℕ
 letter_o = 79
+
+abbrev pub letter_p : ℕ
+letter_p = 80
 
 abbrev pub letter_r : ℕ
 letter_r = 82

@@ -1,7 +1,7 @@
 -- The statements of this crate's theorems. Those of the first part speak of one call, what was asked and what is answered; then come those of writer
 -- and reader together, and of a line's bytes. A statement has its name in small letters in proofs/, where it is proved, and in the contract that
 -- promises it.
-use Rattle.std.specs.Prelude.{◌≡◌, false, List, ◌∷◌, [], ◌++◌, ◌↔◌, ℕ, ◌+◌, ◌≤◌, length, Result, Ok, Err, IfOk}
+use Rattle.std.specs.Prelude.{◌≡◌, false, List, ◌∷◌, [], ◌++◌, ◌↔◌, ℕ, ◌+◌, ◌^◌, ◌≤◌, ◌<◌, length, Result, Ok, Err, IfOk}
 use Rattle.quantity.specs.Refusals.{NoneApplies}
 use Rattle.quantity.specs.declared.refusal.Refusal.{Refusal}
 use Rattle.quantity.specs.declared.refusal.Refusal.TheVariants as R
@@ -9,12 +9,14 @@ use Rattle.buffer.specs.Putting.{buffer_after}
 use Rattle.buffer.specs.Theorems.{Fits}
 use Rattle.meter.specs.Edition.{is_other_edition}
 use Rattle.lines.specs.Bytes.{line_feed, comma, digit_zero}
-use Rattle.lines.specs.Number.{some_long, some_nonzero}
-use Rattle.lines.specs.Line.{word_of, numbers_of, lacked_of, bytes_of, opening_in, opening_length, content_rows, has_other_pressure}
+use Rattle.lines.specs.Number.{most_digits, some_long, some_nonzero}
+use Rattle.lines.specs.Columns.{due_first, tells_other, IsCount, field_text}
+use Rattle.lines.specs.Line.{word_of, text_of, numbers_of, lacked_of, bytes_of, opening_in, opening_length, content_rows, has_other_pressure}
 use Rattle.lines.specs.Reading.{front_of, read_of}
 use Rattle.lines.specs.Writing.{written_of}
 use Rattle.lines.specs.RoundTrip.{ReadsBack, WritesBack, Cause}
 use Rattle.lines.specs.declared.line.EditionLine.{EditionLine}
+use Rattle.lines.specs.declared.numbers.NumbersOf.{NumbersOf}
 use Rattle.lines.specs.declared.line.Layout.{Layout}
 use Rattle.lines.specs.declared.line.Front.{Front}
 use Rattle.lines.specs.declared.line.Line.TheVariants as L
@@ -51,6 +53,23 @@ NeverForPressure answer = answer ≡ Err R.Pressure → ⊥
 -- A line that was read takes at least one byte and no more than there are.
 abbrev pub ReadWithin : List ℕ → Result Front Refusal → Type 0
 ReadWithin bs answer = IfOk answer (λ front. (1 ≤ front.size) × (front.size ≤ length bs))
+
+-- A line of numbers, with what follows it: the first field that is due, a right count of numbers of at most 18 digits, and the line feed; and the edition
+-- that is told, if one is, exists.
+pub record IsNumbersLine (what : NumbersOf) (bs ns : List ℕ) : Type 0 where
+  pub known : tells_other what ≡ false
+  pub rest : List ℕ
+  pub bytes : bs ≡ text_of (due_first what) ns ++ rest
+  pub short : some_long ns ≡ false
+  pub counted : IsCount what (length ns)
+
+-- The reader of numbers answers numbers exactly where their line stands at the front.
+abbrev pub NumbersExactly : NumbersOf → List ℕ → Result (List ℕ) Refusal → Type 0
+NumbersExactly what bs answer = (ns : List ℕ) → (answer ≡ Ok ns) ↔ IsNumbersLine what bs ns
+
+-- A number is written up to next exactly where it has at most 18 digits and fits in up to there with its comma.
+abbrev pub FieldExactly : ℕ → ℕ → ℕ → Result ℕ Refusal → Type 0
+FieldExactly size at n answer = (next : ℕ) → (answer ≡ Ok next) ↔ ((n < 10 ^ most_digits) × Fits size at (length (field_text n)) next)
 
 -- ---- of writer and reader together
 

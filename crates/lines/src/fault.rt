@@ -1,14 +1,15 @@
-// The refusal of a line whose numbers could not all be read: 61 or 62. Only such a line is gone through a second time, so that good lines are read
-// once.
+// The refusal of a line whose numbers could not all be read: 61 or 62. Only such a line is gone through again for its shape.
 ghost use Rattle.std.specs.Prelude.{◌≡◌, ◌==◌, not, cond, [], length, count_by, position};
+ghost use Rattle.std.specs.Option.{unwrap_or};
 ghost use Rattle.lines.specs.Bytes.{line_feed, comma};
 ghost use Rattle.lines.specs.Reading.{same_bytes, is_ended, first_in, others_in, is_misshapen};
 
 use quantity::Refusal;
 
-// 61 for a line that has not its shape, and otherwise 62, by what follows its letter. The line is known to be refused.
-pub(crate) fn fault(after: &[u8], count: usize) -> Refusal
-    ensures { result ≡ cond (is_misshapen [] count after.now) Refusal.Shape Refusal.Number }
+// 61 for a line that has not its shape, and otherwise 62, by what follows its letter, where so many fields are due behind that, or any count. The
+// line is known to be refused.
+pub(crate) fn fault(after: &[u8], count: Option<usize>) -> Refusal
+    ensures { result ≡ cond (is_misshapen [] (unwrap_or count (length (others_in after.now))) after.now) Refusal.Shape Refusal.Number }
 {
     if is_misshapen(after, count) {
         Refusal::Shape
@@ -17,12 +18,15 @@ pub(crate) fn fault(after: &[u8], count: usize) -> Refusal
     }
 }
 
-// Whether the line is not ended, its first field is more than the letter, or it has not count fields behind that.
+// Whether the line is not ended, its first field is more than the letter, or it has not so many fields behind that as are due.
 #[tactic(auto, using(crate::proofs::Faults::misshapen_first))]
-fn is_misshapen(after: &[u8], count: usize) -> bool
-    ensures { result ≡ is_misshapen [] count after.now }
+fn is_misshapen(after: &[u8], count: Option<usize>) -> bool
+    ensures { result ≡ is_misshapen [] (unwrap_or count (length (others_in after.now))) after.now }
 {
-    goes_on(after) || commas_in(after) != Some(count)
+    match commas_in(after) {
+        Some(commas) => goes_on(after) || commas != count.unwrap_or(commas),
+        None => true,
+    }
 }
 
 // Whether the first field goes on after the letter.

@@ -6,7 +6,7 @@ ghost use Rattle.lines.specs.Reading.{edition_in, read_of, read_rows, rest_of};
 ghost use Rattle.lines.specs.Theorems.{RefusedExactly, NeverForPressure, ReadWithin};
 ghost use Rattle.lines.specs.Inside.Parts.{after_letter};
 
-use crate::fields::read_numbers;
+use crate::fields::fill_numbers;
 use crate::line::{CARD_LINE_FIELDS, EditionLine, FILE_PRESSURE, Front, Line, MayCome, Totals};
 use crate::listed::{MOST_LATER, totals_count};
 use crate::opening::{OPENING_LENGTH, opened_edition};
@@ -96,7 +96,7 @@ fn front_card(after: &[u8], edition: u64) -> Result<Front, Refusal>
     ensures { result ≡ after_letter edition card after.now }
 {
     let mut fields = [FILE_PRESSURE; CARD_FIELDS];
-    let size = read_numbers(after, &mut fields[..CARD_LINE_FIELDS])?;
+    let size = fill_numbers(after, &mut fields[..CARD_LINE_FIELDS])?;
     let card = Card::from(fields);
     card.refusal()?;
     let line = EditionLine {
@@ -111,7 +111,7 @@ fn front_sample(after: &[u8], edition: u64) -> Result<Front, Refusal>
     ensures { result ≡ after_letter edition sample after.now }
 {
     let mut numbers = [0u64; SAMPLE_FIELDS];
-    let size = read_numbers(after, &mut numbers)?;
+    let size = fill_numbers(after, &mut numbers)?;
     let line = EditionLine {
         edition,
         line: Line::Sample(Sample::from(numbers)),
@@ -124,7 +124,7 @@ fn front_end(after: &[u8], edition: u64) -> Result<Front, Refusal>
     ensures { result ≡ after_letter edition totals after.now }
 {
     let mut numbers = [0u64; MOST_LATER];
-    let size = read_numbers(after, &mut numbers[..totals_count(edition)])?;
+    let size = fill_numbers(after, &mut numbers[..totals_count(edition)])?;
     let line = EditionLine {
         edition,
         line: Line::End(Totals::from(numbers)),

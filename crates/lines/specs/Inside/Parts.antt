@@ -1,12 +1,14 @@
 -- What the functions inside reader and writer answer: one number, the numbers of a line, a text put at the front of a part of the buffer. They work
 -- on parts of the bytes, and so on what stands at the front of a part.
 use Rattle.std.specs.Prelude.{◌≡◌, ℕ, zero, suc, ◌+◌, ◌/◌, ◌%◌, cond, List, [], ◌∷◌, ◌++◌, Option, Some, None, Result, Ok, Err, eqb, length, take, drop}
+use Rattle.std.specs.Option.{unwrap_or}
+use Rattle.std.specs.Result.{result_and}
 use Rattle.quantity.specs.Refusals.{first_of}
 use Rattle.quantity.specs.declared.refusal.Refusal.{Refusal}
 use Rattle.lines.specs.Bytes.{comma, digit_zero}
 use Rattle.lines.specs.Number.{is_digit, most_digits, is_number, value_of}
 use Rattle.lines.specs.Line.{card_line_fields, totals_fields, LineKind, kind_of, count_of, all_numbers_of, in_edition, content_rows, line_of}
-use Rattle.lines.specs.Reading.{shape_rows, numbers_in, size_of, answer_of}
+use Rattle.lines.specs.Reading.{shape_rows, others_in, numbers_in, size_of, answer_of}
 use Rattle.lines.specs.declared.line.EditionLine.{EditionLine}
 use Rattle.lines.specs.declared.number.Number.{Number}
 use Rattle.lines.specs.declared.line.Front.{Front}
@@ -40,6 +42,10 @@ field_at (b ∷ bs) = cond (eqb b comma) (one_more (number_at bs)) None
 pub data NumbersRead (after out : List ℕ) : Result ℕ Refusal → Type 0 where
   all_read : first_of (shape_rows [] (length out) after) ≡ Ok tt → out ≡ numbers_in after → NumbersRead after out (Ok (size_of after + 1))
   line_refused : (r : Refusal) → first_of (shape_rows [] (length out) after) ≡ Err r → NumbersRead after out (Err r)
+
+-- What the reader of numbers answers of a line of so many numbers, or of any count, by what follows its letter.
+unfoldable pub numbers_after : Option ℕ → List ℕ → Result (List ℕ) Refusal
+numbers_after count after = result_and (first_of (shape_rows [] (unwrap_or count (length (others_in after))) after)) (Ok (numbers_in after))
 
 -- what the reader answers of a line of a kind, by what follows its letter
 unfoldable pub after_letter : ℕ → LineKind → List ℕ → Result Front Refusal

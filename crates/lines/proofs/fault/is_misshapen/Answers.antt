@@ -1,12 +1,12 @@
--- By the commas, where the first field is the letter alone.
-use Rattle.std.proofs.Common.{◌∙◌, ap, sym, not, eqb, Option, ℕ, Some}
+-- By the commas, where the line is ended and its first field is the letter alone.
+use Rattle.std.proofs.Common.{◌∙◌, sym}
 use Rattle.std.proofs.lemmas.Bool.{not-false}
-use Rattle.std.specs.Option.{option_eq}
-use Rattle.lines.proofs.Faults.{by_commas}
+use Rattle.lines.proofs.Faults.{no_end, by_commas}
 use Rattle.lines.proofs.fault.is_misshapen.Goals as goal
 
 pub returns-else-goes_on : goal.returns-else-goes_on
 returns-else-goes_on c =
-    c.ne.ensures
-    ∙ ap (λ (o : Option ℕ). not (option_eq eqb o (Some c.args.count))) c.commas_in.ensures
-    ∙ by_commas _ c.args.count c.args.after.now (not-false _ (sym c.goes_on.ensures ∙ c.if-goes_on.false))
+    by_commas c.args.count c.args.after.now _ c.commas_in.ensures _ _ c.in-Some.is c.unwrap_or.ensures (not-false _ (sym c.goes_on.ensures ∙ c.if-goes_on.false))
+
+pub returns-in-None : goal.returns-in-None
+returns-in-None c = no_end c.args.count c.args.after.now _ c.commas_in.ensures c.in-None.is

@@ -12,7 +12,7 @@ use Rattle.lines.proofs.reading.front_end.Goals as goal
 
 pub returns-in_err-size : goal.returns-in_err-size
 returns-in_err-size c =
-    let r = c.read_numbers in
+    let r = c.fill_numbers in
     let n = c.totals_count in
     passed_on _ _ c.from_residual.ensures.1
     ∙ none_after c.args.edition totals c.args.after.now _ _ r.ensures (r.auto.out ∙ length-take-le _ _ n.ensures.1 ∙ n.ensures.0) _ c.in_err-size.was
@@ -20,7 +20,7 @@ returns-in_err-size c =
 pub returns : goal.returns
 unfolding content_rows line_of first_of
 returns c =
-    let r = c.read_numbers in
+    let r = c.fill_numbers in
     let n = c.totals_count in
     read_after c.args.edition totals c.args.after.now _ _ r.ensures (r.auto.out ∙ length-take-le _ _ n.ensures.1 ∙ n.ensures.0) _ c.in_ok-size.was
     _ (ap L.End c.from.ensures ∙ padded totals r.new.out _ (zeros_left n.result most_later)) refl
