@@ -11,7 +11,7 @@ mod places;
 mod printing;
 mod samples;
 
-pub use auditing::audit;
+pub use auditing::{audit, is_full};
 pub use head::Head;
 pub use made::NotMade;
 pub use printing::{AUDIT_LIMIT, report};

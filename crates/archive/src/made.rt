@@ -1,7 +1,7 @@
 // What is answered where no new file is made of a file.
 use lines::RefusedAt;
 
-/// Why no new file was made of a file. docs/OPERATIONS.md: "Moved files".
+/// Why no new file was made of a file. docs/OPERATIONS.md: "Moved files" and "Columns".
 #[derive(Clone, Copy, Debug, PartialEq, Eq)]
 pub enum NotMade {
     /// a refusal of the file with its line, counted from 1

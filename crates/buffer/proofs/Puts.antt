@@ -5,7 +5,7 @@ use mathlib.Core.List.{List, [], ◌∷◌, ◌++◌, append_assoc, append-nil}
 use Prim.Native.Nat.{ℕ, ◌+◌, ◌-◌, ◌≤◌, ◌<◌}
 use native.Mathlib.Omega.{arith}
 use native.Mathlib.Numerals.{add-one}
-use lib.ListN.{length, take, drop, set, length-append, length-take, length-drop, drop_of_length-le}
+use lib.ListN.{length, take, drop, set, take-append-drop, length-append, length-take, length-drop, drop_of_length-le}
 use lib.Seq.{set_split, take_at, drop_at, drop-drop, length-take-le}
 use Rattle.buffer.specs.Putting.{put_at}
 use Rattle.buffer.specs.Front.{put_front}
@@ -93,3 +93,45 @@ wrote_byte xs t ys k b w room =
       holds = set_put_at ys k b h ∙ behind xs t ys k w (b ∷ []) room;
       next = omega (arith, w.next, length-append t (b ∷ []));
     }
+
+-- ---- texts put one behind the other
+
+-- Some texts of a whole were put, from the position at on, and made out of buf. The others, rest, are to be put from the position place on: that makes
+-- of it what the whole would have made of buf.
+pub record Left (buf : List ℕ) (at : ℕ) (whole out : List ℕ) (place : ℕ) (rest : List ℕ) : Type 0 where
+  pub same : put_at out place rest ≡ put_at buf at whole
+  pub ends : place + length rest ≡ at + length whole
+  pub size : length out ≡ length buf
+
+module _ (buf : List ℕ) (at : ℕ) (whole : List ℕ) where
+  pub left_all : Left buf at whole buf at whole
+  left_all = record { same = refl; ends = refl; size = refl }
+
+  module _ (room : at + length whole ≤ length buf) (out : List ℕ) (place : ℕ) where
+    -- there is room for the next one
+    pub left_room : (t rest : List ℕ) → Left buf at whole out place (t ++ rest) → place + length t ≤ length out
+    left_room t rest l = omega (arith, l.ends, l.size, room, length-append t rest)
+
+    -- it is put
+    pub left_less : (t rest : List ℕ) → Left buf at whole out place (t ++ rest) → (new : List ℕ) (next : ℕ) → new ≡ put_at out place t → next ≡ place + length t →
+        Left buf at whole new next rest
+    left_less t rest l new next e g =
+        let fits = left_room t rest l in
+        record {
+          same = ap (λ (xs : List ℕ). put_at xs next rest) e ∙ put_at_more out place next t rest g (omega (arith, fits, g)) ∙ l.same;
+          ends = omega (arith, l.ends, g, length-append t rest);
+          size = ap length e ∙ length_put_at out place t fits ∙ l.size;
+        }
+
+    -- a byte is stored
+    pub left_byte : (b : ℕ) (rest : List ℕ) → Left buf at whole out place (b ∷ rest) → Left buf at whole (set out place b) (place + 1) rest
+    left_byte b rest l =
+        left_less (b ∷ []) rest l (set out place b) (place + 1) (set_put_at out place b (omega (arith, left_room (b ∷ []) rest l))) refl
+
+    -- and none is left
+    pub left_none : Left buf at whole out place [] → (out ≡ put_at buf at whole) × (place ≡ at + length whole)
+    unfolding put_at
+    left_none l =
+        let end : place ≡ at + length whole = omega (arith, l.ends) in
+        let z : place + 0 ≡ place = omega arith in
+        (sym (ap (λ (n : ℕ). take place out ++ drop n out) z ∙ take-append-drop place out) ∙ l.same, end)

@@ -24,6 +24,11 @@ use Rattle.buffer.specs.Theorems.{Fits, FitsExactly}
 abbrev pub place_stage : ℕ → ℕ → Result Unit Refusal
 place_stage size at = first_of (row R.PlaceBeyond (ltb size at) ∷ [])
 
+-- the front is never beyond
+pub at_front : (size : ℕ) → place_stage size 0 ≡ Ok tt
+unfolding first_of
+at_front size = rw (le-ltb size 0 (omega arith)) refl
+
 abbrev pub room_stage : ℕ → ℕ → ℕ → Result Unit Refusal
 room_stage size at needed = first_of (row R.Room (ltb (size - at) needed) ∷ [])
 
