@@ -57,7 +57,8 @@ numbered n =
     cond (eqb n 75) R.ReadoutShape (
     cond (eqb n 76) R.ReadoutDigit (
     cond (eqb n 77) R.Pressure (
-    R.FilePressure)))))))))))))))))))))))))))))))))))))))))))))
+    cond (eqb n 78) R.FilePressure (
+    R.UnequalColumns))))))))))))))))))))))))))))))))))))))))))))))
 
 given_back : (p : Refusal) → numbered (number_of p) ≡ p
 unfolding number_of numbered
@@ -107,6 +108,7 @@ given_back R.ReadoutShape = refl
 given_back R.ReadoutDigit = refl
 given_back R.Pressure = refl
 given_back R.FilePressure = refl
+given_back R.UnequalColumns = refl
 
 pub numbers_differ : NumbersDiffer
 numbers_differ p q e = sym (given_back p) ∙ ap numbered e ∙ given_back q

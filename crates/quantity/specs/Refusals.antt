@@ -55,6 +55,7 @@ number_of R.ReadoutShape = 75
 number_of R.ReadoutDigit = 76
 number_of R.Pressure = 77
 number_of R.FilePressure = 78
+number_of R.UnequalColumns = 79
 
 -- A row: a refusal, and the condition under which it is given.
 abbrev pub row : Refusal → Bool → Row

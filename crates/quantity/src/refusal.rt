@@ -69,8 +69,8 @@ pub enum Refusal {
     TestFlow = 54,
     /// 55: the conventional true value is zero, it or the indicated value is above 999999999999, or the limit to compare with has denominator zero.
     Values = 55,
-    /// 60: the bytes do not begin with the opening of edition 1, 2 or 3, a line is asked for in another edition than these, or the file to be moved
-    /// is not of the edition that it is moved from.
+    /// 60: the bytes do not begin with the opening that is due, of edition 1, 2 or 3, a line is asked for in another edition than these, or the file to be
+    /// moved is not of the edition that it is moved from.
     Edition = 60,
     /// 61: where a line is due the file ends, or the line has no line feed, another letter, or another count of fields than its edition has.
     Shape = 61,
@@ -107,10 +107,12 @@ pub enum Refusal {
     Pressure = 77,
     /// 78: a card that is to be written to a file has 6 bar, while files are of meters at 16 bar alone.
     FilePressure = 78,
+    /// 79: of the four columns of a file, one has more numbers than another.
+    UnequalColumns = 79,
 }
 
 impl Refusal {
-    /// The number of this refusal, from 10 to 78. It is a method and no `From`, so that each place that takes the number says so.
+    /// The number of this refusal, from 10 to 79. It is a method and no `From`, so that each place that takes the number says so.
     #[tactic(auto, unfolding(crate::specs::Refusals::number_of))]
     pub fn number(self) -> u64
         ensures { result ≡ number_of self }
