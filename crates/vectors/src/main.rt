@@ -5,13 +5,13 @@
 
 mod answers;
 mod archives;
-mod conversions;
 mod hexadecimal;
 mod laws;
 mod meters;
 mod profiles;
 mod readers;
 mod readouts;
+mod rewritings;
 mod temperatures;
 mod text;
 mod verdicts;
@@ -23,7 +23,7 @@ use std::io;
 use std::io::{Read, Write};
 
 // The most bytes of an input that are read.
-const MOST_INPUT: usize = 524288;
+const MOST_INPUT: usize = 1048576;
 
 fn main(rt: HostRuntime) -> io::Result<()> {
     let mut space = empty_space();
@@ -77,7 +77,9 @@ fn operate(out: &mut impl Write, line: &[u8]) -> Result<(), Unanswered> {
         [b'A', ..] => archives::of_file(out, line)?,
         [b'N', ..] => archives::of_zeros(out, line)?,
         [b'L', ..] => writers::of_values(out, line)?,
-        [b'E', ..] => conversions::of_file(out, line)?,
+        [b'E', ..] => rewritings::of_edition(out, line)?,
+        [b'H', ..] => rewritings::of_archive(out, line)?,
+        [b'Z', ..] => rewritings::of_columns(out, line)?,
         [b'B', ..] => readouts::of_values(out, line)?,
         [b'Y', ..] => readouts::of_bytes(out, line)?,
         _ => {}
