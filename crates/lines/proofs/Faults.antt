@@ -4,14 +4,12 @@ use Rattle.std.proofs.Common.{Result, Ok, Err}
 use mathlib.Core.Path.{◌≡◌, refl, sym, ap, ◌∙◌}
 use mathlib.Core.Bool.{Bool, true, false, cond, not, ◌||◌, or-true}
 use mathlib.Core.List.{List, [], ◌∷◌}
-use Prim.Native.Nat.{ℕ, suc, ◌+◌, ◌<◌}
+use Prim.Native.Nat.{ℕ, suc, ◌+◌, ◌<◌, ◌≤◌}
 use native.Mathlib.Omega.{arith}
 use lib.Dec.{eqb, ltb}
 use Rattle.std.proofs.Common.{Option, Some, None}
 use Rattle.std.specs.Option.{unwrap_or}
-use Rattle.std.proofs.lemmas.List.Recursion.{is_count_by}
-use Rattle.quantity.proofs.Comparing.{same_order}
-use Rattle.std.specs.List.{position, position_or_len, count_by}
+use Rattle.std.proofs.lemmas.List.{at_drop_more, at_drop_all}
 use lib.ListN.{length, get_or, take, drop}
 use borrow.Author.Tests.{lt-ltb, eq-eqb, ne_eqb}
 use Rattle.quantity.specs.Refusals.{row, first_of}
@@ -24,34 +22,6 @@ use Rattle.lines.proofs.Splitting.{Parted, parted, split_parted, length_parted}
 use Rattle.lines.proofs.Shape.{line_bytes, shape_forth}
 
 -- ---- the commas before the line's end
-
--- where the bytes end, and whether they do
-ends_at : (bs : List ℕ) → position_or_len (λ b. eqb b line_feed) bs ≡ length (until_end bs)
-unfolding until_end
-ends_at [] = refl
-ends_at (b ∷ bs) =
-    elim (eqb b line_feed) as (λ t. eqb b line_feed ≡ t → position_or_len (λ x. eqb x line_feed) (b ∷ bs) ≡ length (until_end (b ∷ bs))) [
-      | true ↦ λ e. simp e
-      | false ↦ λ e. simp (e, ends_at bs) (omega arith)
-    ] refl
-
-ended_is : (bs : List ℕ) → ltb (length (until_end bs)) (length bs) ≡ is_ended bs
-unfolding until_end is_ended
-ended_is [] = refl
-ended_is (b ∷ bs) =
-    elim (eqb b line_feed) as (λ t. eqb b line_feed ≡ t → ltb (length (until_end (b ∷ bs))) (length (b ∷ bs)) ≡ is_ended (b ∷ bs)) [
-      | true ↦ λ e. simp e (lt-ltb 0 (suc (length bs)) (omega arith))
-      | false ↦ λ e. simp e (same_order (suc (length (until_end bs))) (suc (length bs)) (length (until_end bs)) (length bs) (λ h. omega arith) (λ h. omega arith) ∙ ended_is bs)
-    ] refl
-
-front_is : (bs : List ℕ) → take (length (until_end bs)) bs ≡ until_end bs
-unfolding until_end
-front_is [] = refl
-front_is (b ∷ bs) =
-    elim (eqb b line_feed) as (λ t. eqb b line_feed ≡ t → take (length (until_end (b ∷ bs))) (b ∷ bs) ≡ until_end (b ∷ bs)) [
-      | true ↦ λ e. simp e
-      | false ↦ λ e. simp (e, front_is bs)
-    ] refl
 
 pub others_first : (b : ℕ) (l : List (List ℕ)) → Parted l → drop 1 (with_first b l) ≡ drop 1 l
 unfolding with_first
@@ -69,36 +39,63 @@ one_other b bs = go (eqb b comma)
     go true = omega (arith, length_parted (split bs) (split_parted bs))
     go false = ap length (others_first b (split bs) (split_parted bs))
 
-fields_counted : (bs : List ℕ) → others_of bs ≡ count_by (λ b. eqb b comma) bs
-unfolding others_of split
-fields_counted bs = is_count_by others_of (λ b. eqb b comma) refl one_other bs
+-- how many commas the line has, each with a field after it, where it is ended
+abbrev pub commas_of : List ℕ → Option ℕ
+commas_of bs = cond (is_ended bs) (Some (length (others_in bs))) None
 
-module _ (bs : List ℕ) where
-  end_is : position (λ b. eqb b line_feed) bs ≡ cond (is_ended bs) (Some (length (until_end bs))) None
-  end_is = simp (ends_at bs, ended_is bs)
+-- the commas of what is left of a line, and so many before it
+unfoldable pub with_before : ℕ → Option ℕ → Option ℕ
+with_before n (Some c) = Some (n + c)
+with_before n None = None
 
-  pub unended : position (λ b. eqb b line_feed) bs ≡ None → is_ended bs ≡ false
-  unended h = go (is_ended bs) refl
+one_byte : (b : ℕ) (bs : List ℕ) → commas_of (b ∷ bs) ≡ cond (eqb b line_feed) (Some 0) (cond (eqb b comma) (with_before 1 (commas_of bs)) (commas_of bs))
+unfolding until_end is_ended fields_in split others_of with_before
+one_byte b bs =
+    elim (eqb b line_feed) as (λ t. eqb b line_feed ≡ t → commas_of (b ∷ bs) ≡ cond t (Some 0) (cond (eqb b comma) (with_before 1 (commas_of bs)) (commas_of bs))) [
+      | true ↦ λ e. simp e
+      | false ↦ λ e. simp e (ap (λ (n : ℕ). cond (is_ended bs) (Some n) None) (one_other b (until_end bs)) ∙ by (is_ended bs) (eqb b comma))
+    ] refl
+  where
+    by : (t u : Bool) → cond t (Some (cond u (1 + others_of (until_end bs)) (others_of (until_end bs)))) None
+        ≡ cond u (with_before 1 (cond t (Some (others_of (until_end bs))) None)) (cond t (Some (others_of (until_end bs))) None)
+    by true true = refl
+    by true false = refl
+    by false true = refl
+    by false false = refl
+
+-- a byte of the line, from an index on
+module _ (n i d : ℕ) (bs : List ℕ) (h : i < length bs) where
+  here : commas_of (drop i bs) ≡ cond (eqb (get_or bs i d) line_feed) (Some 0) (cond (eqb (get_or bs i d) comma) (with_before 1 (commas_of (drop (i + 1) bs))) (commas_of (drop (i + 1) bs)))
+  here = at_drop_more commas_of bs i d h ∙ one_byte (get_or bs i d) (drop (i + 1) bs)
+
+  pub at_feed : get_or bs i d ≡ line_feed → Some n ≡ with_before n (commas_of (drop i bs))
+  unfolding with_before
+  at_feed e =
+      let none : commas_of (drop i bs) ≡ Some 0 = here ∙ rw (eq-eqb (get_or bs i d) line_feed e) refl in
+      sym (ap (with_before n) none ∙ ap Some (omega arith))
+
+  pub at_comma : get_or bs i d ≡ comma → with_before (n + 1) (commas_of (drop (i + 1) bs)) ≡ with_before n (commas_of (drop i bs))
+  unfolding with_before
+  at_comma e =
+      let more : commas_of (drop i bs) ≡ with_before 1 (commas_of (drop (i + 1) bs)) =
+      here ∙ rw (ne_eqb (get_or bs i d) line_feed (λ g. omega arith), eq-eqb (get_or bs i d) comma e) refl in
+      sym (ap (with_before n) more ∙ go (commas_of (drop (i + 1) bs)))
     where
-      go : (t : Bool) → is_ended bs ≡ t → t ≡ false
-      go true e = let z : Some (length (until_end bs)) ≡ None = sym (end_is ∙ rw e) ∙ h in absurd (let y : ◌≡◌ {A = ℕ} 0 1 = cc z in omega arith)
-      go false e = refl
+      go : (o : Option ℕ) → with_before n (with_before 1 o) ≡ with_before (n + 1) o
+      go (Some c) = ap Some (omega arith)
+      go None = refl
 
-  pub ended : (n : ℕ) → position (λ b. eqb b line_feed) bs ≡ Some n → (is_ended bs ≡ true) × (n ≡ length (until_end bs))
-  ended n h = go (is_ended bs) refl
-    where
-      go : (t : Bool) → is_ended bs ≡ t → (t ≡ true) × (n ≡ length (until_end bs))
-      go true e = let z : Some (length (until_end bs)) ≡ Some n = sym (end_is ∙ rw e) ∙ h in (refl, sym (cc z))
-      go false e = let z : None ≡ Some n = sym (end_is ∙ rw e) ∙ h in absurd (let y : ◌≡◌ {A = ℕ} 0 1 = cc z in omega arith)
+  pub at_other : (get_or bs i d ≡ line_feed → ⊥) → (get_or bs i d ≡ comma → ⊥) → commas_of (drop (i + 1) bs) ≡ commas_of (drop i bs)
+  at_other f g = sym (here ∙ rw (ne_eqb (get_or bs i d) line_feed f, ne_eqb (get_or bs i d) comma g) refl)
 
-  pub counted : (n : ℕ) → position (λ b. eqb b line_feed) bs ≡ Some n → count_by (λ b. eqb b comma) (take n bs) ≡ length (others_in bs)
-  unfolding fields_in others_of
-  counted n h =
-      let e = ended n h in
-      rw (e.1, front_is bs) (sym (fields_counted (until_end bs)))
+pub at_no_byte : (n i : ℕ) (bs : List ℕ) → length bs ≤ i → None ≡ with_before n (commas_of (drop i bs))
+unfolding with_before is_ended
+at_no_byte n i bs h = sym (ap (with_before n) (at_drop_all commas_of bs i h))
 
--- for `commas_in`
-pub ruleset counting = (unended, ended, counted)
+pub from_start : (o : Option ℕ) → with_before 0 o ≡ o
+unfolding with_before
+from_start (Some c) = ap Some (omega arith)
+from_start None = refl
 
 -- ---- the first field
 

@@ -1,7 +1,6 @@
 // The refusal of a line whose numbers could not all be read: 61 or 62. Only such a line is gone through again for its shape.
-ghost use Rattle.std.specs.Prelude.{◌≡◌, ◌==◌, not, cond, [], length, count_by, position};
+ghost use Rattle.std.specs.Prelude.{◌≡◌, not, cond, [], length};
 ghost use Rattle.std.specs.Option.{unwrap_or};
-ghost use Rattle.lines.specs.Bytes.{line_feed, comma};
 ghost use Rattle.lines.specs.Reading.{same_bytes, is_ended, first_in, others_in, is_misshapen};
 
 use quantity::Refusal;
@@ -23,10 +22,11 @@ pub(crate) fn fault(after: &[u8], count: Option<usize>) -> Refusal
 fn is_misshapen(after: &[u8], count: Option<usize>) -> bool
     ensures { result ≡ is_misshapen [] (unwrap_or count (length (others_in after.now))) after.now }
 {
-    match commas_in(after) {
-        Some(commas) => goes_on(after) || commas != count.unwrap_or(commas),
-        None => true,
-    }
+    goes_on(after)
+        || match commas_in(after) {
+            Some(commas) => commas != count.unwrap_or(commas),
+            None => true,
+        }
 }
 
 // Whether the first field goes on after the letter.
@@ -40,24 +40,18 @@ fn goes_on(after: &[u8]) -> bool
     }
 }
 
-// How many commas the line has, each with a field after it; none of a line that is not ended.
-#[tactic(auto, using(crate::proofs::Faults::counting))]
+// How many commas the line has, each with a field after it; none of a line that is not ended. One pass, which ends at the line feed.
 fn commas_in(after: &[u8]) -> Option<usize>
     ensures { result ≡ cond (is_ended after.now) (Some (length (others_in after.now))) None }
 {
-    let end = line_end(after)?;
-    Some(count_commas(&after[..end]))
-}
-
-// Where the line feed stands.
-fn line_end(after: &[u8]) -> Option<usize>
-    ensures { result ≡ position (λ b. b == line_feed) after.now }
-{
-    after.iter().position(|b| *b == b'\n')
-}
-
-fn count_commas(bytes: &[u8]) -> usize
-    ensures { result ≡ count_by (λ b. b == comma) bytes.now }
-{
-    bytes.iter().filter(|b| **b == b',').count()
+    let mut commas = 0;
+    for byte in after {
+        if *byte == b'\n' {
+            return Some(commas);
+        }
+        if *byte == b',' {
+            commas += 1;
+        }
+    }
+    None
 }
