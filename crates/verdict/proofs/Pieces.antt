@@ -16,15 +16,29 @@ use Rattle.verdict.specs.declared.class.Figures.{Figures}
 use Rattle.verdict.specs.declared.kinds.Part.TheVariants.{Calculator, SensorPair, FlowSensor, Complete}
 use Rattle.verdict.specs.declared.point.TestPoint.{TestPoint}
 
+-- the calculator's and the pair's, of any point with a difference
+pub calculator_part : (p : TestPoint) →
+    let d = p.difference.0 in
+    0 < d → Represents (d + 200 * p.delta_min over 2 * d) (calculator_limit p)
+unfolding calculator_limit plus
+calculator_part p h = record { is_fraction = omega arith; same = omega arith }
+
+pub pair_part : (p : TestPoint) →
+    let d = p.difference.0 in
+    0 < d → Represents (d + 600 * p.delta_min over 2 * d) (pair_limit p)
+unfolding pair_limit plus times
+pair_part p h = record { is_fraction = omega arith; same = omega arith }
+
+-- of a point that is admitted for the part
 pub calculator : (f : Figures) (a : AdmittedPoint) → a.part ≡ Calculator →
     Represents (a.difference.0 + 200 * a.delta_min over 2 * a.difference.0) (part_limit f (point_of a))
-unfolding part_limit calculator_limit plus
-calculator f a e = simp e (record { is_fraction = omega arith; same = omega arith })
+unfolding part_limit calculator_limit
+calculator f a e = simp e (calculator_part (point_of a) (omega arith))
 
 pub pair : (f : Figures) (a : AdmittedPoint) → a.part ≡ SensorPair →
     Represents (a.difference.0 + 600 * a.delta_min over 2 * a.difference.0) (part_limit f (point_of a))
-unfolding part_limit pair_limit plus times
-pair f a e = simp e (record { is_fraction = omega arith; same = omega arith })
+unfolding part_limit pair_limit
+pair f a e = simp e (pair_part (point_of a) (omega arith))
 
 -- the smaller of two, by which of them it is
 either : (P : Fraction → Type 0) (x y : Fraction) → (AtMost x y → P x) → (AtMost y x → P y) → P (smaller x y)
@@ -33,7 +47,7 @@ either P x y first second =
     cond_both (is_at_most x y) x y P (λ e. first (leb-true _ _ e)) (λ e. second (le_of_lt (leb-false _ _ e)))
 
 -- the smaller of the sum and the cap, both times 100 × q
-capped : (f : Figures) (p : TestPoint) (n : ℕ) → 0 < p.q → n ≡ min (f.constant * p.q + f.factor * p.qp) (f.cap * p.q) → Represents (n over 100 * p.q) (flow_sensor_limit f p)
+pub capped : (f : Figures) (p : TestPoint) (n : ℕ) → 0 < p.q → n ≡ min (f.constant * p.q + f.factor * p.qp) (f.cap * p.q) → Represents (n over 100 * p.q) (flow_sensor_limit f p)
 unfolding flow_sensor_limit flow_sensor_sum plus times
 capped f p n h e =
     either (Represents (n over 100 * p.q)) (flow_sensor_sum f p) _

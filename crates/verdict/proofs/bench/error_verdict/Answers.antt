@@ -1,5 +1,5 @@
 -- A refusal of the limit is the verdict's (`of_refusal`), which has to be said of the exit of the `?`; and where there is a limit, its comparison is the
--- verdict (`of_limit`).
+-- verdict (`of_limit`). Which refusal the `?` gives is searched for, so that a body is judged by that and not by its form.
 use Rattle.std.proofs.Common.{rules, ap, sym, ◌∙◌}
 use Rattle.std.proofs.lemmas.Result.{err_from_is_err_and}
 use Rattle.quantity.specs.Refusals.{refusal_number}
@@ -13,7 +13,7 @@ use Rattle.verdict.proofs.bench.error_verdict.Goals as goal
 pub returns-in_err-limit-clause-answer : goal.returns-in_err-limit-clause-answer
 returns-in_err-limit-clause-answer c =
     let p = err_from_is_err_and c.from_residual.result c.from_residual.ensures.1 in
-    rw (p.1, p.2) (sym (of_refusal c.args.point _ _ _ (sym c.error_limit.ensures.answer ∙ c.in_err-limit.was)))
+    rw (p.1, p.2) (sym (of_refusal c.args.point _ _ _ (search rules)))
 
 pub returns-in_err-limit-clause-number : goal.returns-in_err-limit-clause-number
 unfolding verdict_of
