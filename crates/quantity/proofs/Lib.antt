@@ -3,6 +3,7 @@ pub mod Comparing
 pub mod Conditions
 pub mod Divisors
 pub mod Ends
+pub mod Floors
 pub mod Fractions
 pub mod Largest
 pub mod LowestTerms

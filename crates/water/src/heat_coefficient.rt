@@ -9,6 +9,7 @@ ghost use Rattle.water.specs.Theorems.{CoefficientExactly};
 
 use crate::interpolation::enthalpy_rise;
 use crate::pair::Pair;
+use crate::parts::scaled_quotient;
 use quantity::{Refusal, Temperature, first_refusal};
 
 /// The heat coefficient k of OIML R 75-1 in J/(m³ K), rounded down, of a supply and a return temperature, both in hundredths of °C, with the volume
@@ -55,7 +56,7 @@ fn order_refusal(ts: Temperature, tr: Temperature) -> Result<(), Refusal>
 }
 
 impl Pair {
-    // The exact coefficient, rounded down, with the volume at the place.
+    // The exact coefficient, rounded down, with the volume at the place. 10^11 is taken as 1000 × 10^8, so that no product passes 64 bits.
     #[tactic(auto, unfolding(crate::specs::Coefficient::exact_coefficient))]
     fn floored_coefficient(self) -> u64
         requires { self.return_water.temperature.0 < self.supply_water.temperature.0 }
@@ -67,7 +68,10 @@ impl Pair {
             .supply_water
             .temperature
             .distance(self.return_water.temperature);
-        let denominator = u128::from(self.measured().volume) * u128::from(difference.0);
-        (100000000000 * u128::from(rise) / denominator) as u64
+        scaled_quotient(
+            1000,
+            100000000 * rise,
+            self.measured().volume() * difference.0,
+        )
     }
 }

@@ -7,19 +7,32 @@ ghost use Rattle.water.specs.Interpolation.{interpolated, enthalpy_at, volume_at
 use crate::pressure::Pressure;
 use quantity::Temperature;
 
-// Water at a pressure and at a temperature of its table: H in 10^-2 mJ/kg and V in 10^-14 m³/kg, with the bounds that keep the code's products in range.
+// Water at a pressure and at a temperature of its table.
 #[derive(Clone, Copy)]
 pub(crate) struct WaterAt {
     pub(crate) pressure: Pressure,
     pub(crate) temperature: Temperature,
-    pub(crate) enthalpy: u64,
-    pub(crate) volume: u64,
     ghost in_table: { temperature.0 ≤ 100 * last_of pressure },
-    ghost is_enthalpy: { enthalpy ≡ enthalpy_at (table_of pressure) temperature },
-    ghost is_volume: { volume ≡ volume_at (table_of pressure) temperature },
-    ghost most_enthalpy: { enthalpy ≤ 80000000000 },
-    ghost least_volume: { 90000000000 ≤ volume },
-    ghost most_volume: { volume ≤ 113000000000 },
+}
+
+// H in 10^-2 mJ/kg and V in 10^-14 m³/kg, each worked out where it is asked, with the bounds that keep the code's products in range.
+impl WaterAt {
+    pub(crate) fn enthalpy(self) -> u64
+        ensures is_enthalpy { result ≡ enthalpy_at (table_of self.pressure) self.temperature }
+        ensures most_enthalpy { result ≤ 80000000000 }
+    {
+        let (enthalpies, _) = self.pressure.columns();
+        interpolate(enthalpies, self.temperature.0)
+    }
+
+    pub(crate) fn volume(self) -> u64
+        ensures is_volume { result ≡ volume_at (table_of self.pressure) self.temperature }
+        ensures least_volume { 90000000000 ≤ result }
+        ensures most_volume { result ≤ 113000000000 }
+    {
+        let (_, volumes) = self.pressure.columns();
+        interpolate(volumes, self.temperature.0)
+    }
 }
 
 // The water at a pressure and a temperature. What is done with it need not ask again whether the table has the temperature.
@@ -27,12 +40,9 @@ pub(crate) fn water_at(pressure: Pressure, temperature: Temperature) -> WaterAt
     requires { temperature.0 ≤ 100 * last_of pressure }
     ensures { (result.pressure ≡ pressure) × (result.temperature ≡ temperature) }
 {
-    let (enthalpies, volumes) = pressure.columns();
     WaterAt {
         pressure,
         temperature,
-        enthalpy: interpolate(enthalpies, temperature.0),
-        volume: interpolate(volumes, temperature.0),
     }
 }
 
@@ -60,7 +70,8 @@ fn mixed(low: u32, high: u32, f: u64) -> u64
 // H(warm) − H(cold), in 10^-2 mJ/kg, at one pressure.
 pub(crate) fn enthalpy_rise(warm: WaterAt, cold: WaterAt) -> u64
     requires { (cold.pressure ≡ warm.pressure) × (cold.temperature.0 ≤ warm.temperature.0) }
-    ensures { result ≡ enthalpy_at (table_of warm.pressure) warm.temperature - enthalpy_at (table_of warm.pressure) cold.temperature }
+    ensures rise { result ≡ enthalpy_at (table_of warm.pressure) warm.temperature - enthalpy_at (table_of warm.pressure) cold.temperature }
+    ensures most_rise { result ≤ 80000000000 }
 {
-    warm.enthalpy - cold.enthalpy
+    warm.enthalpy() - cold.enthalpy()
 }

@@ -7,6 +7,7 @@ mod interpolation;
 /// What is proved of the definition of water.
 pub mod laws;
 mod pair;
+mod parts;
 mod pressure;
 mod tables;
 mod volume_heat;

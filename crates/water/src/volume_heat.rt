@@ -8,6 +8,7 @@ ghost use Rattle.water.specs.Theorems.{HeatExactly};
 
 use crate::interpolation::enthalpy_rise;
 use crate::pair::Pair;
+use crate::parts::scaled_quotient;
 use quantity::{Refusal, Temperature, first_refusal};
 
 /// The largest volume whose heat is given, in mL: a cubic metre. A sample with more is refused (31).
@@ -58,7 +59,6 @@ impl Pair {
         } else {
             enthalpy_rise(self.supply_water, self.return_water)
         };
-        let numerator = u128::from(1000000 * u) * u128::from(rise);
-        (numerator / u128::from(self.measured().volume)) as u64
+        scaled_quotient(1000000, u * rise, self.measured().volume())
     }
 }

@@ -1,5 +1,5 @@
 -- The warmer has not the smaller enthalpy.
-use Rattle.std.proofs.Common.{arith, ◌≡◌}
+use Rattle.std.proofs.Common.{arith, ap₂, ◌≡◌, ◌-◌}
 use Rattle.water.specs.Table.{table_of}
 use Rattle.water.specs.Interpolation.{enthalpy_at}
 use Rattle.water.proofs.Bounds.{bounded}
@@ -10,5 +10,13 @@ pub overflow_sub-result : goal.overflow_sub-result
 overflow_sub-result c =
     let w = c.args.warm in
     let k = c.args.cold in
-    let same : k.enthalpy ≡ enthalpy_at (table_of w.pressure) k.temperature = rw c.requires.0 at k.is_enthalpy in
-    omega (arith, same, enthalpy_in_order (table_of w.pressure) (bounded w.pressure) w.temperature k.temperature c.requires.1 w.in_table)
+    let same : c.enthalpy-2.result ≡ enthalpy_at (table_of w.pressure) k.temperature = rw c.requires.0 at c.enthalpy-2.ensures.is_enthalpy in
+    omega (
+      arith,
+      c.enthalpy.ensures.is_enthalpy,
+      same,
+      enthalpy_in_order (table_of w.pressure) (bounded w.pressure) w.temperature k.temperature c.requires.1 w.in_table,
+    )
+
+pub returns-clause-rise : goal.returns-clause-rise
+returns-clause-rise c = ap₂ ◌-◌ c.enthalpy.ensures.is_enthalpy (rw c.requires.0 at c.enthalpy-2.ensures.is_enthalpy)
